@@ -1,0 +1,11 @@
+-- Definitions of the plane, in the order to read.
+pub mod Basics
+pub mod Points
+pub mod Limit
+pub mod Locations
+pub mod Rectangle
+pub mod Signs
+pub mod Polygon
+pub mod Segment
+pub mod Intersection
+pub mod Found

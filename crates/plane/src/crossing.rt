@@ -1,0 +1,26 @@
+// A crossing of a segment and an edge, the record of its binary64 numbers, and what a search over the edges finds.
+use crate::location::Location;
+use crate::point::Point64;
+
+// No crossing, one at a known point, or one at a fraction of the segment.
+pub enum Crossing {
+    Nothing,
+    At(Point64),
+    Along(f64),
+}
+
+// The float working of one segment and one edge: the segment's start and differences, the determinant and the fraction.
+pub struct Working {
+    pub x: f64,
+    pub y: f64,
+    pub dx: f64,
+    pub dy: f64,
+    pub det: f64,
+    pub t: f64,
+}
+
+// What `get_intersection` answers: nothing, or the crossing and its side.
+pub enum Search {
+    Missed,
+    Found(Point64, Location),
+}

@@ -1,0 +1,5 @@
+// The plane: points, the rectangle, locations and crossings, with their total methods.
+pub mod crossing;
+pub mod location;
+pub mod point;
+pub mod rect;

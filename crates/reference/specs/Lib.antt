@@ -1,0 +1,9 @@
+-- The definition of both clippers, in the order to read, after plane's.
+pub mod Walk
+pub mod Lines
+pub mod Arena
+pub mod Tidy
+pub mod Clip
+pub mod Entry
+pub mod Demand
+pub mod Bounds

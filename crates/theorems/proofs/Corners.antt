@@ -1,0 +1,119 @@
+-- Four passes are enough to go round the rectangle to a side.
+use mathlib.Core.Path.{_≡_, refl, sym, ap, _∙_, subst, fun-ext}
+use mathlib.Core.Bool.{Bool, true, false, cond, _||_}
+use Prim.Native.Nat.{ℕ, zero, suc, _+_}
+use native.Mathlib.Omega.{arith}
+use Rattle.plane.specs.declared.rect.Rect64.{Rect64}
+use Rattle.plane.specs.declared.location.Location.{Location}
+use Rattle.plane.specs.declared.location.Location.the-variants.{Left, Top, Right, Bottom, Inside}
+use Rattle.plane.specs.Basics.{if_then_else_, Try, refuse, ok, _>>=_}
+use Rattle.plane.specs.Locations.{same-location, get-adjacent-location, is-inside}
+use Rattle.plane.specs.Rectangle.{corner}
+use Rattle.reference.specs.Walk.{Walk, add, push-start-loc, add-corner-loc, add-corners, push-start-locs}
+use Rattle.reference.specs.Bounds.{CornersEnd, StartLocsEnd}
+
+never : {W : Type 0} → true ≡ false → W
+never e = let z : _≡_ {A = ℕ} 0 1 = cc in absurd (omega arith)
+
+-- loc is met within n steps from p
+abbrev meets : ℕ → Location → Location → Bool → Bool
+meets zero p loc cw = false
+meets (suc n) p loc cw = let rest = meets n (get-adjacent-location p cw) loc cw in same-location (get-adjacent-location p cw) loc || rest
+
+four : (k : ℕ) (p loc : Location) (cw : Bool) → is-inside loc ≡ false → meets (suc (suc (suc (suc k)))) p loc cw ≡ true
+four k Left Left true e = refl
+four k Left Left false e = refl
+four k Left Top true e = refl
+four k Left Top false e = refl
+four k Left Right true e = refl
+four k Left Right false e = refl
+four k Left Bottom true e = refl
+four k Left Bottom false e = refl
+four k Left Inside true e = never e
+four k Left Inside false e = never e
+four k Top Left true e = refl
+four k Top Left false e = refl
+four k Top Top true e = refl
+four k Top Top false e = refl
+four k Top Right true e = refl
+four k Top Right false e = refl
+four k Top Bottom true e = refl
+four k Top Bottom false e = refl
+four k Top Inside true e = never e
+four k Top Inside false e = never e
+four k Right Left true e = refl
+four k Right Left false e = refl
+four k Right Top true e = refl
+four k Right Top false e = refl
+four k Right Right true e = refl
+four k Right Right false e = refl
+four k Right Bottom true e = refl
+four k Right Bottom false e = refl
+four k Right Inside true e = never e
+four k Right Inside false e = never e
+four k Bottom Left true e = refl
+four k Bottom Left false e = refl
+four k Bottom Top true e = refl
+four k Bottom Top false e = refl
+four k Bottom Right true e = refl
+four k Bottom Right false e = refl
+four k Bottom Bottom true e = refl
+four k Bottom Bottom false e = refl
+four k Bottom Inside true e = never e
+four k Bottom Inside false e = never e
+four k Inside Left true e = refl
+four k Inside Left false e = refl
+four k Inside Top true e = refl
+four k Inside Top false e = refl
+four k Inside Right true e = refl
+four k Inside Right false e = refl
+four k Inside Bottom true e = refl
+four k Inside Bottom false e = refl
+four k Inside Inside true e = never e
+four k Inside Inside false e = never e
+
+-- a loop that does `act` at a location, moves on, and stops at loc
+module _ (act : Walk → Location → Try Walk) (loc : Location) (cw : Bool) (loop : ℕ → Walk → Location → Try Walk)
+    (again : (n : ℕ) (w : Walk) (p : Location) → loop (suc n) w p ≡ (act w p >>= λ v. cond (same-location (get-adjacent-location p cw) loc) (ok v) (loop n v (get-adjacent-location p cw)))) where
+  same : (m n : ℕ) (w : Walk) (p : Location) → meets m p loc cw ≡ true → meets n p loc cw ≡ true → loop m w p ≡ loop n w p
+  same zero n w p h k = never (sym h)
+  same (suc m) zero w p h k = never (sym k)
+  same (suc m) (suc n) w p h k =
+      again m w p ∙ ap (λ (f : Walk → Try Walk). act w p >>= f) (fun-ext (λ v. go (same-location (get-adjacent-location p cw) loc) v h k (same m n v (get-adjacent-location p cw)))) ∙ sym (again n w p)
+    where
+      go : (b : Bool) (v : Walk) → (b || meets m (get-adjacent-location p cw) loc cw) ≡ true → (b || meets n (get-adjacent-location p cw) loc cw) ≡ true
+          → (meets m (get-adjacent-location p cw) loc cw ≡ true → meets n (get-adjacent-location p cw) loc cw ≡ true → loop m v (get-adjacent-location p cw) ≡ loop n v (get-adjacent-location p cw))
+          → cond b (ok v) (loop m v (get-adjacent-location p cw)) ≡ cond b (ok v) (loop n v (get-adjacent-location p cw))
+      go true v h k f = refl
+      go false v h k f = f h k
+
+  pub four-enough : is-inside loc ≡ false → (w : Walk) (p : Location) (k : ℕ) → loop (4 + k) w p ≡ loop 4 w p
+  four-enough e w p k =
+      let u : 4 + k ≡ suc (suc (suc (suc k))) = omega arith in
+      ap (λ (n : ℕ). loop n w p) u ∙ same (suc (suc (suc (suc k)))) 4 w p (four k p loc cw e) (four 0 p loc cw e)
+
+-- the location that a corner step comes to does not depend on the walk
+joined : {A B C : Type 0} (m : Try A) (g : A → B) (f : B → Try C) → ((m >>= λ a. ok (g a)) >>= f) ≡ (m >>= λ a. f (g a))
+joined (refuse n) g f = refl
+joined (ok a) g f = refl
+
+corner-step : (full : ℕ → Bool) (rect : Rect64) (loc : Location) (cw : Bool) (n : ℕ) (v : Walk) (q : Location) → add-corners full rect (suc n) v q loc cw
+    ≡ (add full v (corner rect (if cw then q else get-adjacent-location q cw)) false >>= λ u. cond (same-location (get-adjacent-location q cw) loc) (ok u) (add-corners full rect n u (get-adjacent-location q cw) loc cw))
+unfolding add-corners add-corner-loc
+corner-step full rect loc cw n v q =
+    joined {A = Walk} {B = Walk × Location} (add full v (corner rect (if cw then q else get-adjacent-location q cw)) false) (λ u. (u, get-adjacent-location q cw)) (λ t. cond (same-location (t .1) loc) (ok (t .0)) (add-corners full rect n (t .0) (t .1) loc cw))
+
+push-step : (full : ℕ → Bool) (rect : Rect64) (loc : Location) (cw : Bool) (n : ℕ) (v : Walk) (q : Location) → push-start-locs full rect (suc n) v q loc cw
+    ≡ (push-start-loc full v q >>= λ u. cond (same-location (get-adjacent-location q cw) loc) (ok u) (push-start-locs full rect n u (get-adjacent-location q cw) loc cw))
+unfolding push-start-locs
+push-step full rect loc cw n v q = refl
+
+pub corners-end : CornersEnd
+corners-end full rect w p loc cw e = four-enough (λ v q. add full v (corner rect (if cw then q else get-adjacent-location q cw)) false) loc cw (λ n v q. add-corners full rect n v q loc cw) again e w p
+  where
+    again : (n : ℕ) (v : Walk) (q : Location) → add-corners full rect (suc n) v q loc cw
+        ≡ (add full v (corner rect (if cw then q else get-adjacent-location q cw)) false >>= λ u. cond (same-location (get-adjacent-location q cw) loc) (ok u) (add-corners full rect n u (get-adjacent-location q cw) loc cw))
+    again n v q = corner-step full rect loc cw n v q
+
+pub start-locs-end : StartLocsEnd
+start-locs-end full rect w p loc cw e = four-enough (λ v q. push-start-loc full v q) loc cw (λ n v q. push-start-locs full rect n v q loc cw) (λ n v q. push-step full rect loc cw n v q) e w p

@@ -1,0 +1,463 @@
+-- What the search for a crossing finds: a corner, or a point near an exact crossing.
+use mathlib.Core.Path.{_≡_, refl, sym, ap, _∙_, subst}
+use mathlib.Core.Bool.{Bool, true, false, cond, not, _&&_, _||_, Bool·beq}
+use mathlib.Core.Logic.{_⊎_, inl, inr}
+use mathlib.Core.List.{List, [], _∷_}
+use Prim.Native.Nat.{ℕ, zero, suc, _+_, _-_, _*_, _<_, _≤_, suc-le-suc, zero-le}
+use native.Mathlib.Nat.{lt-of-le-of-lt, mul-pos, zero-mul}
+use native.Mathlib.Omega.{arith}
+use lib.Dec.{lit<}
+use lib.IntN.{ℤ, pos, negsuc, natAbs, negℤ, _+ℤ_, _-ℤ_, _*ℤ_, +ℤ-invr, *ℤ-zero, zero-*ℤ, +ℤ-idr, +ℤ-idl}
+use lib.Signed.{ltZ, leZ, _≤ℤ_, _<ℤ_, <ℤ-irrefl}
+use Rattle.integers.specs.Order.{zint}
+use Rattle.integers.specs.Laws.{ -ℤ-zero}
+use Rattle.integers.specs.Sign.{mul-le-r, mul-zero}
+use Rattle.integers.specs.Tests.{eqZ, eqZ-true, eqZ-false, eq-eqZ, ztest, ltZ-true, ltZ-false, ltZ-sub, ltZ-sub′, tri, lt-or-le}
+use Rattle.integers.specs.Ring.{Ex, var, _⊕_, _⊖_, _⊗_, ring}
+use Rattle.rounding.specs.Coordinate.{exact, Near, Crosses, isNegative, Limit}
+use Rattle.rounding.proofs.Exact.{crosses-lt, none, left-product, right-product}
+use Rattle.rounding.proofs.Edge.{crosses-of-signs}
+use Rattle.rounding.proofs.Along.{between-ends, at-least, at-most}
+use Rattle.plane.specs.declared.point.Point64.{Point64}
+use Rattle.plane.specs.declared.crossing.Crossing.{Crossing}
+use Rattle.plane.specs.declared.crossing.Crossing.the-variants.{Nothing, At, Along}
+use Rattle.plane.specs.declared.crossing.Working.{Working}
+use Rattle.plane.specs.Limit.{AllLimited}
+use Rattle.plane.specs.Segment.{workingOf, crossingOf, settledOf, intersection}
+use Rattle.plane.specs.Found.{NearCrossing}
+use Rattle.plane.specs.Found as F
+use Rattle.theorems.proofs.Crossed.{near-crossing}
+use Rattle.plane.specs.declared.location.Location.{Location}
+use Rattle.plane.specs.declared.crossing.Search.{Search}
+use Rattle.plane.specs.declared.crossing.Search.the-variants.{Missed, Found}
+use Rattle.plane.specs.Points.{same-point}
+use Rattle.plane.specs.Signs.{cross-product-sign, is-horizontal}
+use Rattle.plane.specs.Intersection.{at-end, get-segment-intersection, met}
+use Rattle.reference.specs.Demand.{Between}
+
+never : {W : Type 0} → true ≡ false → W
+never e = let z : _≡_ {A = ℕ} 0 1 = cc in absurd (omega arith)
+
+-- ---- signs
+pos-facts : (z : ℤ) → pos 0 <ℤ z → (0 < natAbs z) × (isNegative z ≡ false)
+pos-facts (pos zero) h = absurd (<ℤ-irrefl h)
+pos-facts (pos (suc n)) h = (suc-le-suc zero-le, refl)
+pos-facts (negsuc n) h = absurd (h .lt)
+
+neg-facts : (z : ℤ) → z <ℤ pos 0 → (0 < natAbs z) × (isNegative z ≡ true)
+neg-facts (pos zero) h = absurd (<ℤ-irrefl h)
+neg-facts (pos (suc n)) h = let k : pos (suc n) <ℤ pos 0 = h in absurd (omega zint)
+neg-facts (negsuc n) h = (suc-le-suc zero-le, refl)
+
+-- the sign of ab − cd as `cross_product_sign` has it
+abbrev sgn : ℤ → ℤ → ℤ
+sgn ab cd = cond (ltZ cd ab) (pos 1) (cond (ltZ ab cd) (negsuc 0) (pos 0))
+
+sgn-zero : (ab cd : ℤ) → eqZ (sgn ab cd) (pos 0) ≡ true → ab ≡ cd
+sgn-zero ab cd = go (ltZ cd ab) refl (ltZ ab cd) refl
+  where
+    go : (s : Bool) → ltZ cd ab ≡ s → (t : Bool) → ltZ ab cd ≡ t → eqZ (cond s (pos 1) (cond t (negsuc 0) (pos 0))) (pos 0) ≡ true → ab ≡ cd
+    go true p t q e = never (sym e)
+    go false p true q e = never (sym e)
+    go false p false q e = omega ztest
+
+sgn-facts : (ab cd : ℤ) → eqZ (sgn ab cd) (pos 0) ≡ false → (0 < natAbs (ab -ℤ cd)) × (ltZ (pos 0) (sgn ab cd) ≡ not (isNegative (ab -ℤ cd)))
+sgn-facts ab cd = go (ltZ cd ab) refl (ltZ ab cd) refl
+  where
+    go : (s : Bool) → ltZ cd ab ≡ s → (t : Bool) → ltZ ab cd ≡ t → eqZ (cond s (pos 1) (cond t (negsuc 0) (pos 0))) (pos 0) ≡ false
+        → (0 < natAbs (ab -ℤ cd)) × (ltZ (pos 0) (cond s (pos 1) (cond t (negsuc 0) (pos 0))) ≡ not (isNegative (ab -ℤ cd)))
+    go true p t q e = let f = pos-facts (ab -ℤ cd) (ltZ-true (ltZ-sub cd ab ∙ p)) in (f .0, sym (ap not (f .1)))
+    go false p true q e = let f = neg-facts (ab -ℤ cd) (ltZ-true (ltZ-sub′ cd ab ∙ q)) in (f .0, sym (ap not (f .1)))
+    go false p false q e = never e
+
+-- two signs that differ
+differ : (x y s t : Bool) → Bool·beq x y ≡ false → x ≡ not s → y ≡ not t → s ≡ not t
+differ true true s t e f g = never e
+differ true false s true e f g = flip s f
+  where
+    flip : (s : Bool) → true ≡ not s → s ≡ false
+    flip true f = never f
+    flip false f = refl
+differ true false s false e f g = never (sym g)
+differ false true s true e f g = never g
+differ false true s false e f g = flip s f
+  where
+    flip : (s : Bool) → false ≡ not s → s ≡ true
+    flip true f = refl
+    flip false f = never (sym f)
+differ false false s t e f g = never e
+
+-- ---- coordinates
+not-zero : (z : ℤ) → (z ≡ pos 0 → ⊥) → 0 < natAbs z
+not-zero (pos zero) h = absurd (h refl)
+not-zero (pos (suc n)) h = suc-le-suc zero-le
+not-zero (negsuc n) h = suc-le-suc zero-le
+
+-- at the start and at the end of the segment
+exact-start : (y1 y2 : ℤ) (d : ℕ) → exact y1 y2 0 d ≡ y1 *ℤ pos d
+exact-start y1 y2 d = ap (λ (z : ℤ). y1 *ℤ pos d +ℤ z) (*ℤ-zero (y2 -ℤ y1)) ∙ +ℤ-idr (y1 *ℤ pos d)
+
+exact-end : (y1 y2 : ℤ) (d : ℕ) → exact y1 y2 d d ≡ y2 *ℤ pos d
+exact-end y1 y2 d = ring (y1 ∷ y2 ∷ pos d ∷ []) (var 0 ⊗ var 2 ⊕ (var 1 ⊖ var 0) ⊗ var 2) (var 1 ⊗ var 2) tt
+
+near-self : (z : ℤ) (d : ℕ) → 0 < d → Near z (z *ℤ pos d) d
+unfolding Near
+near-self z d h = subst (λ (u : ℤ). natAbs u * 33554432 < d * 33554433) (sym (+ℤ-invr (z *ℤ pos d))) (omega arith)
+
+-- the segment's first coordinates are across the edge, which is at x3 and runs between lo and hi
+pub record Crossed (x1 y1 x2 y2 x3 lo hi : ℤ) : Type 0 where
+  pub extends : 0 < natAbs (x1 -ℤ x2)
+  pub crosses : Between x1 x3 x2
+  pub not-before : (lo *ℤ pos (natAbs (x1 -ℤ x2))) ≤ℤ exact y1 y2 (natAbs (x1 -ℤ x3)) (natAbs (x1 -ℤ x2))
+  pub not-behind : exact y1 y2 (natAbs (x1 -ℤ x3)) (natAbs (x1 -ℤ x2)) ≤ℤ (hi *ℤ pos (natAbs (x1 -ℤ x2)))
+
+-- and (x, y) is near that crossing
+pub record NearBy (x1 y1 x2 y2 x3 lo hi x y : ℤ) : Type 0 where
+  pub crossed : Crossed x1 y1 x2 y2 x3 lo hi
+  pub near-across : Near x (exact x1 x2 (natAbs (x1 -ℤ x3)) (natAbs (x1 -ℤ x2))) (natAbs (x1 -ℤ x2))
+  pub near-along : Near y (exact y1 y2 (natAbs (x1 -ℤ x3)) (natAbs (x1 -ℤ x2))) (natAbs (x1 -ℤ x2))
+
+either-way : (a b : ℤ) → Between a a b
+either-way a b = go (lt-or-le a b)
+  where
+    go : (a <ℤ b) ⊎ (b ≤ℤ a) → Between a a b
+    go (inl h) = inl (omega zint, omega zint)
+    go (inr h) = inr (h, omega zint)
+
+either-way′ : (a b : ℤ) → Between a b b
+either-way′ a b = go (lt-or-le a b)
+  where
+    go : (a <ℤ b) ⊎ (b ≤ℤ a) → Between a b b
+    go (inl h) = inl (omega zint, omega zint)
+    go (inr h) = inr (omega zint, h)
+
+size-none : (a b : ℤ) → a ≡ b → natAbs (a -ℤ b) ≡ 0
+size-none a b e = ap natAbs (none a b e)
+
+pub scaled : (a b : ℤ) (d : ℕ) → a ≤ℤ b → (a *ℤ pos d) ≤ℤ (b *ℤ pos d)
+scaled a b d h = let z : pos 0 ≤ℤ pos d = omega zint in mul-le-r a b (pos d) h z
+
+apart : (a b : ℤ) → (a ≡ b → ⊥) → 0 < natAbs (a -ℤ b)
+apart a b h = not-zero (a -ℤ b) (λ e. h (-ℤ-zero a b e))
+
+-- the start is on the edge
+at-start : (x1 y1 x2 y2 x3 lo hi : ℤ) → x1 ≡ x3 → (x2 ≡ x3 → ⊥) → lo ≤ℤ y1 → y1 ≤ℤ hi → NearBy x1 y1 x2 y2 x3 lo hi x1 y1
+at-start x1 y1 x2 y2 x3 lo hi e h l m =
+    let d = natAbs (x1 -ℤ x2) in
+    let D : 0 < d = apart x1 x2 (λ q. h (sym q ∙ e)) in
+    let z : natAbs (x1 -ℤ x3) ≡ 0 = size-none x1 x3 e in
+    let E : (u v : ℤ) → exact u v (natAbs (x1 -ℤ x3)) d ≡ u *ℤ pos d = λ u v. ap (λ (n : ℕ). exact u v n d) z ∙ exact-start u v d in
+    record {
+      crossed = record {
+        extends = D;
+        crosses = subst (λ (u : ℤ). Between x1 u x2) e (either-way x1 x2);
+        not-before = subst (λ (u : ℤ). (lo *ℤ pos d) ≤ℤ u) (sym (E y1 y2)) (scaled lo y1 d l);
+        not-behind = subst (λ (u : ℤ). u ≤ℤ (hi *ℤ pos d)) (sym (E y1 y2)) (scaled y1 hi d m);
+      };
+      near-across = subst (λ (u : ℤ). Near x1 u d) (sym (E x1 x2)) (near-self x1 d D);
+      near-along = subst (λ (u : ℤ). Near y1 u d) (sym (E y1 y2)) (near-self y1 d D);
+    }
+
+-- the end is on the edge
+at-finish : (x1 y1 x2 y2 x3 lo hi : ℤ) → x2 ≡ x3 → (x1 ≡ x3 → ⊥) → lo ≤ℤ y2 → y2 ≤ℤ hi → NearBy x1 y1 x2 y2 x3 lo hi x2 y2
+at-finish x1 y1 x2 y2 x3 lo hi e h l m =
+    let d = natAbs (x1 -ℤ x2) in
+    let D : 0 < d = apart x1 x2 (λ q. h (q ∙ e)) in
+    let z : natAbs (x1 -ℤ x3) ≡ d = ap (λ (u : ℤ). natAbs (x1 -ℤ u)) (sym e) in
+    let E : (u v : ℤ) → exact u v (natAbs (x1 -ℤ x3)) d ≡ v *ℤ pos d = λ u v. ap (λ (n : ℕ). exact u v n d) z ∙ exact-end u v d in
+    record {
+      crossed = record {
+        extends = D;
+        crosses = subst (λ (u : ℤ). Between x1 u x2) e (either-way′ x1 x2);
+        not-before = subst (λ (u : ℤ). (lo *ℤ pos d) ≤ℤ u) (sym (E y1 y2)) (scaled lo y2 d l);
+        not-behind = subst (λ (u : ℤ). u ≤ℤ (hi *ℤ pos d)) (sym (E y1 y2)) (scaled y2 hi d m);
+      };
+      near-across = subst (λ (u : ℤ). Near x2 u d) (sym (E x1 x2)) (near-self x2 d D);
+      near-along = subst (λ (u : ℤ). Near y2 u d) (sym (E y1 y2)) (near-self y2 d D);
+    }
+
+-- the edge is passed
+crosses-between : (a c b : ℤ) → Crosses a c b → Between a c b
+crosses-between a c b k = go (isNegative (a -ℤ c)) refl
+  where
+    go : (s : Bool) → isNegative (a -ℤ c) ≡ s → Between a c b
+    go true e = inl (at-most a c e, at-most c b (sym (k .alike) ∙ e))
+    go false e = inr (at-least c b (sym (k .alike) ∙ e), at-least a c e)
+
+-- the edge's ends, in either order
+abbrev pub Ends : ℤ → ℤ → ℤ → ℤ → Type 0
+Ends c d lo hi = ((c ≡ lo) × (d ≡ hi)) ⊎ ((c ≡ hi) × (d ≡ lo))
+
+pub ordered : (u v w lo hi : ℤ) (d : ℕ) → lo <ℤ hi → Ends v w lo hi → (((v *ℤ pos d) ≤ℤ u) × (u ≤ℤ (w *ℤ pos d))) ⊎ (((w *ℤ pos d) ≤ℤ u) × (u ≤ℤ (v *ℤ pos d)))
+    → ((lo *ℤ pos d) ≤ℤ u) × (u ≤ℤ (hi *ℤ pos d))
+ordered u v w lo hi d l (inl e) (inl h) = (subst (λ (z : ℤ). (z *ℤ pos d) ≤ℤ u) (e .0) (h .0), subst (λ (z : ℤ). u ≤ℤ (z *ℤ pos d)) (e .1) (h .1))
+ordered u v w lo hi d l (inr e) (inr h) = (subst (λ (z : ℤ). (z *ℤ pos d) ≤ℤ u) (e .1) (h .0), subst (λ (z : ℤ). u ≤ℤ (z *ℤ pos d)) (e .0) (h .1))
+ordered u v w lo hi d l (inl e) (inr h) =
+    let a = subst (λ (z : ℤ). (z *ℤ pos d) ≤ℤ u) (e .1) (h .0) in
+    let b = subst (λ (z : ℤ). u ≤ℤ (z *ℤ pos d)) (e .0) (h .1) in
+    let c = scaled lo hi d (omega zint) in
+    (omega zint, omega zint)
+ordered u v w lo hi d l (inr e) (inl h) =
+    let a = subst (λ (z : ℤ). (z *ℤ pos d) ≤ℤ u) (e .0) (h .0) in
+    let b = subst (λ (z : ℤ). u ≤ℤ (z *ℤ pos d)) (e .1) (h .1) in
+    let c = scaled lo hi d (omega zint) in
+    (omega zint, omega zint)
+
+-- strictly between the ends, or equal tests
+along-edge : (y v w lo hi : ℤ) → lo <ℤ hi → Ends v w lo hi → Bool·beq (ltZ v y) (ltZ y w) ≡ true → (lo ≤ℤ y) × (y ≤ℤ hi)
+along-edge y v w lo hi l e = go (ltZ v y) refl (ltZ y w) refl e
+  where
+    go : (s : Bool) → ltZ v y ≡ s → (t : Bool) → ltZ y w ≡ t → Ends v w lo hi → Bool·beq s t ≡ true → (lo ≤ℤ y) × (y ≤ℤ hi)
+    go true p true q (inl e) b = let a = e .0 in let c = e .1 in (omega ztest, omega ztest)
+    go true p true q (inr e) b = let a = e .0 in let c = e .1 in (omega ztest, omega ztest)
+    go false p false q (inl e) b = let a = e .0 in let c = e .1 in (omega ztest, omega ztest)
+    go false p false q (inr e) b = let a = e .0 in let c = e .1 in (omega ztest, omega ztest)
+    go true p false q e b = never (sym b)
+    go false p true q e b = never (sym b)
+
+-- ---- the same signs, turned round
+sgn-facts′ : (ab cd : ℤ) → eqZ (sgn ab cd) (pos 0) ≡ false → (0 < natAbs (cd -ℤ ab)) × (ltZ (pos 0) (sgn ab cd) ≡ isNegative (cd -ℤ ab))
+sgn-facts′ ab cd = go (ltZ cd ab) refl (ltZ ab cd) refl
+  where
+    go : (s : Bool) → ltZ cd ab ≡ s → (t : Bool) → ltZ ab cd ≡ t → eqZ (cond s (pos 1) (cond t (negsuc 0) (pos 0))) (pos 0) ≡ false
+        → (0 < natAbs (cd -ℤ ab)) × (ltZ (pos 0) (cond s (pos 1) (cond t (negsuc 0) (pos 0))) ≡ isNegative (cd -ℤ ab))
+    go true p t q e = let f = neg-facts (cd -ℤ ab) (ltZ-true (ltZ-sub′ ab cd ∙ p)) in (f .0, sym (f .1))
+    go false p true q e = let f = pos-facts (cd -ℤ ab) (ltZ-true (ltZ-sub ab cd ∙ q)) in (f .0, sym (f .1))
+    go false p false q e = never e
+
+-- the second sign is not the first
+differ-back : (x y s t : Bool) → Bool·beq x y ≡ false → x ≡ not s → y ≡ not t → t ≡ not s
+differ-back x y s t e f g = swap s t (differ x y s t e f g)
+  where
+    swap : (s t : Bool) → s ≡ not t → t ≡ not s
+    swap true true e = never e
+    swap true false e = refl
+    swap false true e = refl
+    swap false false e = never (sym e)
+
+unlike-plain : (x y s t : Bool) → Bool·beq x y ≡ false → x ≡ s → y ≡ t → t ≡ not s
+unlike-plain true true s t e f g = never e
+unlike-plain true false s t e f g = sym g ∙ ap not f
+unlike-plain false true s t e f g = sym g ∙ ap not f
+unlike-plain false false s t e f g = never e
+
+unlike-first : (x y s t : Bool) → Bool·beq x y ≡ false → x ≡ s → y ≡ t → s ≡ not t
+unlike-first true true s t e f g = never e
+unlike-first true false s t e f g = sym f ∙ ap not g
+unlike-first false true s t e f g = sym f ∙ ap not g
+unlike-first false false s t e f g = never e
+
+-- ---- what is found, case by case
+module _ (w : Working) (s : Location) (q : Point64) (t : Location) where
+  chain : {W : Type 0} (b : Bool) (x y : Crossing) → (b ≡ true → met s (settledOf x w) ≡ Found q t → W) → (b ≡ false → met s (settledOf y w) ≡ Found q t → W) → met s (settledOf (cond b x y) w) ≡ Found q t → W
+  chain true x y h k e = h refl e
+  chain false x y h k e = k refl e
+
+  nothing : {W : Type 0} → Missed ≡ Found q t → W
+  nothing e = let z : _≡_ {A = ℕ} 0 1 = cc in absurd (omega arith)
+
+  same : (p : Point64) → Found p s ≡ Found q t → q ≡ p
+  same p e = cc
+
+  -- an end of one on the other: the end itself
+  end-is : (p a b : Point64) → met s (settledOf (at-end p a b) w) ≡ Found q t → q ≡ p
+  unfolding at-end
+  end-is p a b =
+      chain (same-point p a || same-point p b) _ _ (λ _ e. same p e)
+      (λ _. chain (is-horizontal a b) _ _
+      (λ _. chain (Bool·beq (ltZ (a .x) (p .x)) (ltZ (p .x) (b .x))) _ _ (λ _ e. same p e) (λ _ e. nothing e))
+      (λ _. chain (Bool·beq (ltZ (a .y) (p .y)) (ltZ (p .y) (b .y))) _ _ (λ _ e. same p e) (λ _ e. nothing e)))
+
+same-is : (p q : Point64) → same-point p q ≡ true → p ≡ q
+same-is p q e = go (eqZ (p .x) (q .x)) refl (eqZ (p .y) (q .y)) refl e
+  where
+    go : (s : Bool) → eqZ (p .x) (q .x) ≡ s → (t : Bool) → eqZ (p .y) (q .y) ≡ t → (s && t) ≡ true → p ≡ q
+    go true f true g e = λ i. record { x = eqZ-true {a = p .x} {b = q .x} f i; y = eqZ-true {a = p .y} {b = q .y} g i }
+    go true f false g e = never (sym e)
+    go false f t g e = never (sym e)
+
+one-of : (p a b : Point64) → (same-point p a || same-point p b) ≡ true → (p ≡ a) ⊎ (p ≡ b)
+one-of p a b e = go (same-point p a) refl e
+  where
+    go : (s : Bool) → same-point p a ≡ s → (s || same-point p b) ≡ true → (p ≡ a) ⊎ (p ≡ b)
+    go true f e = inl (same-is p a f)
+    go false f e = inr (same-is p b e)
+
+pub data Got (c d q : Point64) (N : Type 0) : Type 0 where
+  got-from : q ≡ c → Got c d q N
+  got-to : q ≡ d → Got c d q N
+  got-near : N → Got c d q N
+
+-- ---- an upright edge
+module _ (a b c d : Point64) (lo hi : ℤ) (e : d .x ≡ c .x) (ends : Ends (c .y) (d .y) lo hi) (l : lo <ℤ hi) (lim : AllLimited a b c d) where
+  abbrev ByUpright : Point64 → Type 0
+  ByUpright q = NearBy (a .x) (a .y) (b .x) (b .y) (c .x) lo hi (q .x) (q .y)
+
+  tall : d .y ≡ c .y → ⊥
+  tall q = go ends
+    where
+      go : Ends (c .y) (d .y) lo hi → ⊥
+      go (inl h) = let u = h .0 in let v = h .1 in omega zint
+      go (inr h) = let u = h .0 in let v = h .1 in omega zint
+
+  on-line : (p : Point64) → eqZ (cross-product-sign p c d) (pos 0) ≡ true → p .x ≡ c .x
+  unfolding cross-product-sign
+  on-line p h = go (mul-zero (c .x -ℤ p .x) (d .y -ℤ c .y)
+      (sgn-zero ((c .x -ℤ p .x) *ℤ (d .y -ℤ c .y)) ((c .y -ℤ p .y) *ℤ (d .x -ℤ c .x)) h ∙ ap (λ (z : ℤ). (c .y -ℤ p .y) *ℤ z) (none (d .x) (c .x) e) ∙ *ℤ-zero (c .y -ℤ p .y)))
+    where
+      go : (c .x -ℤ p .x ≡ pos 0) ⊎ (d .y -ℤ c .y ≡ pos 0) → p .x ≡ c .x
+      go (inl z) = sym (-ℤ-zero (c .x) (p .x) z)
+      go (inr z) = absurd (tall (-ℤ-zero (d .y) (c .y) z))
+
+  off-value : (p : Point64) → eqZ (cross-product-sign p c d) (pos 0) ≡ false
+      → (0 < natAbs ((c .x -ℤ p .x) *ℤ (d .y -ℤ c .y))) × (ltZ (pos 0) (cross-product-sign p c d) ≡ not (isNegative ((c .x -ℤ p .x) *ℤ (d .y -ℤ c .y))))
+  unfolding cross-product-sign
+  off-value p h =
+      subst (λ (z : ℤ). (0 < natAbs z) × (ltZ (pos 0) (cross-product-sign p c d) ≡ not (isNegative z)))
+      (left-product (c .x -ℤ p .x) (d .y -ℤ c .y) (c .y -ℤ p .y) (d .x -ℤ c .x) (none (d .x) (c .x) e))
+      (sgn-facts ((c .x -ℤ p .x) *ℤ (d .y -ℤ c .y)) ((c .y -ℤ p .y) *ℤ (d .x -ℤ c .x)) h)
+
+  off-line : (p : Point64) → eqZ (cross-product-sign p c d) (pos 0) ≡ false → p .x ≡ c .x → ⊥
+  off-line p h q =
+      let z : natAbs ((c .x -ℤ p .x) *ℤ (d .y -ℤ c .y)) ≡ 0 = ap natAbs (ap (λ (u : ℤ). u *ℤ (d .y -ℤ c .y)) (none (c .x) (p .x) (sym q)) ∙ zero-*ℤ (d .y -ℤ c .y)) in
+      let k = off-value p h .0 in
+      omega arith
+
+  -- an end of the segment on the edge
+  touch : (w : Working) (s : Location) (q : Point64) (t : Location) (p : Point64) → ((lo ≤ℤ p .y) → (p .y ≤ℤ hi) → ByUpright p) → met s (settledOf (at-end p c d) w) ≡ Found q t → Got c d q (ByUpright q)
+  unfolding at-end
+  touch w s q t p f =
+      chain w s q t (same-point p c || same-point p d) _ _ (λ b m. go (one-of p c d b) (same w s q t p m))
+      (λ _. chain w s q t (is-horizontal c d) _ _ (λ b _. absurd (tall (sym (eqZ-true {a = c .y} {b = d .y} b))))
+      (λ _. chain w s q t (Bool·beq (ltZ (c .y) (p .y)) (ltZ (p .y) (d .y))) _ _
+      (λ b m. let g = along-edge (p .y) (c .y) (d .y) lo hi l ends b in got-near (subst ByUpright (sym (same w s q t p m)) (f (g .0) (g .1))))
+      (λ _ m. nothing w s q t m)))
+    where
+      go : (p ≡ c) ⊎ (p ≡ d) → q ≡ p → Got c d q (ByUpright q)
+      go (inl u) v = got-from (v ∙ u)
+      go (inr u) v = got-to (v ∙ u)
+
+  passing : (s : Location) (q : Point64) (t : Location) → eqZ (cross-product-sign a c d) (pos 0) ≡ false → eqZ (cross-product-sign b c d) (pos 0) ≡ false
+      → Bool·beq (ltZ (pos 0) (cross-product-sign a c d)) (ltZ (pos 0) (cross-product-sign b c d)) ≡ false
+      → eqZ (cross-product-sign c a b) (pos 0) ≡ false → eqZ (cross-product-sign d a b) (pos 0) ≡ false
+      → Bool·beq (ltZ (pos 0) (cross-product-sign c a b)) (ltZ (pos 0) (cross-product-sign d a b)) ≡ false
+      → met s (intersection a b c d) ≡ Found q t → ByUpright q
+  unfolding cross-product-sign
+  passing s q t z1 z2 n12 z3 z4 n34 m =
+      let v1 = off-value a z1 in
+      let v2 = off-value b z2 in
+      let K : Crosses (a .x) (c .x) (b .x) = crosses-of-signs (a .x) (c .x) (b .x) (d .y -ℤ c .y) (v1 .0) (v2 .0) (differ _ _ (isNegative ((c .x -ℤ a .x) *ℤ (d .y -ℤ c .y))) (isNegative ((c .x -ℤ b .x) *ℤ (d .y -ℤ c .y))) n12 (v1 .1) (v2 .1)) in
+      let v3 = sgn-facts ((a .x -ℤ c .x) *ℤ (b .y -ℤ a .y)) ((a .y -ℤ c .y) *ℤ (b .x -ℤ a .x)) z3 in
+      let v4 = subst (λ (u : ℤ). (0 < natAbs ((a .x -ℤ u) *ℤ (b .y -ℤ a .y) -ℤ (a .y -ℤ d .y) *ℤ (b .x -ℤ a .x))) × (ltZ (pos 0) (cross-product-sign d a b) ≡ not (isNegative ((a .x -ℤ u) *ℤ (b .y -ℤ a .y) -ℤ (a .y -ℤ d .y) *ℤ (b .x -ℤ a .x))))) e
+      (sgn-facts ((a .x -ℤ d .x) *ℤ (b .y -ℤ a .y)) ((a .y -ℤ d .y) *ℤ (b .x -ℤ a .x)) z4) in
+      let B = ordered (exact (a .y) (b .y) (natAbs (a .x -ℤ c .x)) (natAbs (a .x -ℤ b .x))) (c .y) (d .y) lo hi (natAbs (a .x -ℤ b .x)) l ends
+      (between-ends (a .x) (a .y) (b .x) (b .y) (c .x) (c .y) (d .y) K (v3 .0) (v4 .0) (differ-back _ _ (isNegative ((a .x -ℤ c .x) *ℤ (b .y -ℤ a .y) -ℤ (a .y -ℤ c .y) *ℤ (b .x -ℤ a .x))) (isNegative ((a .x -ℤ c .x) *ℤ (b .y -ℤ a .y) -ℤ (a .y -ℤ d .y) *ℤ (b .x -ℤ a .x))) n34 (v3 .1) (v4 .1))) in
+      let f = near-crossing a b c d lim .upright e (apart (d .y) (c .y) tall) K in
+      let p : q ≡ f .point = same (workingOf a b c d) s q t (f .point) (subst (λ (k : Crossing). met s k ≡ Found q t) (f .is) m) in
+      subst ByUpright (sym p) (record {
+        crossed = record { extends = lt-of-le-of-lt zero-le (crosses-lt (a .x) (c .x) (b .x) K); crosses = crosses-between (a .x) (c .x) (b .x) K; not-before = B .0; not-behind = B .1 };
+        near-across = f .near-x;
+        near-along = f .near-y;
+      })
+
+  pub upright-got : (s : Location) (q : Point64) (t : Location) → met s (settledOf (get-segment-intersection a b c d) (workingOf a b c d)) ≡ Found q t → Got c d q (ByUpright q)
+  unfolding get-segment-intersection intersection
+  upright-got s q t =
+      let w = workingOf a b c d in
+      chain w s q t (eqZ (cross-product-sign a c d) (pos 0)) _ _
+      (λ z1. chain w s q t (eqZ (cross-product-sign b c d) (pos 0)) _ _ (λ _ m. nothing w s q t m)
+      (λ z2. touch w s q t a (at-start (a .x) (a .y) (b .x) (b .y) (c .x) lo hi (on-line a z1) (off-line b z2))))
+      (λ z1. chain w s q t (eqZ (cross-product-sign b c d) (pos 0)) _ _
+      (λ z2. touch w s q t b (at-finish (a .x) (a .y) (b .x) (b .y) (c .x) lo hi (on-line b z2) (off-line a z1)))
+      (λ z2. chain w s q t (Bool·beq (ltZ (pos 0) (cross-product-sign a c d)) (ltZ (pos 0) (cross-product-sign b c d))) _ _ (λ _ m. nothing w s q t m)
+      (λ n12. chain w s q t (eqZ (cross-product-sign c a b) (pos 0)) _ _ (λ _ m. got-from (end-is w s q t c a b m))
+      (λ z3. chain w s q t (eqZ (cross-product-sign d a b) (pos 0)) _ _ (λ _ m. got-to (end-is w s q t d a b m))
+      (λ z4. chain w s q t (Bool·beq (ltZ (pos 0) (cross-product-sign c a b)) (ltZ (pos 0) (cross-product-sign d a b))) _ _ (λ _ m. nothing w s q t m)
+      (λ n34 m. got-near (passing s q t z1 z2 n12 z3 z4 n34 m)))))))
+
+-- ---- a level edge
+module _ (a b c d : Point64) (lo hi : ℤ) (e : d .y ≡ c .y) (ends : Ends (c .x) (d .x) lo hi) (l : lo <ℤ hi) (lim : AllLimited a b c d) where
+  abbrev ByLevel : Point64 → Type 0
+  ByLevel q = NearBy (a .y) (a .x) (b .y) (b .x) (c .y) lo hi (q .y) (q .x)
+
+  wide : d .x ≡ c .x → ⊥
+  wide q = go ends
+    where
+      go : Ends (c .x) (d .x) lo hi → ⊥
+      go (inl h) = let u = h .0 in let v = h .1 in omega zint
+      go (inr h) = let u = h .0 in let v = h .1 in omega zint
+
+  on-level : (p : Point64) → eqZ (cross-product-sign p c d) (pos 0) ≡ true → p .y ≡ c .y
+  unfolding cross-product-sign
+  on-level p h = go (mul-zero (c .y -ℤ p .y) (d .x -ℤ c .x)
+      (sym (sgn-zero ((c .x -ℤ p .x) *ℤ (d .y -ℤ c .y)) ((c .y -ℤ p .y) *ℤ (d .x -ℤ c .x)) h) ∙ ap (λ (z : ℤ). (c .x -ℤ p .x) *ℤ z) (none (d .y) (c .y) e) ∙ *ℤ-zero (c .x -ℤ p .x)))
+    where
+      go : (c .y -ℤ p .y ≡ pos 0) ⊎ (d .x -ℤ c .x ≡ pos 0) → p .y ≡ c .y
+      go (inl z) = sym (-ℤ-zero (c .y) (p .y) z)
+      go (inr z) = absurd (wide (-ℤ-zero (d .x) (c .x) z))
+
+  level-value : (p : Point64) → eqZ (cross-product-sign p c d) (pos 0) ≡ false
+      → (0 < natAbs ((c .y -ℤ p .y) *ℤ (d .x -ℤ c .x))) × (ltZ (pos 0) (cross-product-sign p c d) ≡ isNegative ((c .y -ℤ p .y) *ℤ (d .x -ℤ c .x)))
+  unfolding cross-product-sign
+  level-value p h =
+      subst (λ (z : ℤ). (0 < natAbs z) × (ltZ (pos 0) (cross-product-sign p c d) ≡ isNegative z))
+      (left-product (c .y -ℤ p .y) (d .x -ℤ c .x) (c .x -ℤ p .x) (d .y -ℤ c .y) (none (d .y) (c .y) e))
+      (sgn-facts′ ((c .x -ℤ p .x) *ℤ (d .y -ℤ c .y)) ((c .y -ℤ p .y) *ℤ (d .x -ℤ c .x)) h)
+
+  off-level : (p : Point64) → eqZ (cross-product-sign p c d) (pos 0) ≡ false → p .y ≡ c .y → ⊥
+  off-level p h q =
+      let z : natAbs ((c .y -ℤ p .y) *ℤ (d .x -ℤ c .x)) ≡ 0 = ap natAbs (ap (λ (u : ℤ). u *ℤ (d .x -ℤ c .x)) (none (c .y) (p .y) (sym q)) ∙ zero-*ℤ (d .x -ℤ c .x)) in
+      let k = level-value p h .0 in
+      omega arith
+
+  level-touch : (w : Working) (s : Location) (q : Point64) (t : Location) (p : Point64) → ((lo ≤ℤ p .x) → (p .x ≤ℤ hi) → ByLevel p) → met s (settledOf (at-end p c d) w) ≡ Found q t → Got c d q (ByLevel q)
+  unfolding at-end
+  level-touch w s q t p f =
+      chain w s q t (same-point p c || same-point p d) _ _ (λ b m. go (one-of p c d b) (same w s q t p m))
+      (λ _. chain w s q t (is-horizontal c d) _ _
+      (λ _. chain w s q t (Bool·beq (ltZ (c .x) (p .x)) (ltZ (p .x) (d .x))) _ _
+      (λ b m. let g = along-edge (p .x) (c .x) (d .x) lo hi l ends b in got-near (subst ByLevel (sym (same w s q t p m)) (f (g .0) (g .1))))
+      (λ _ m. nothing w s q t m))
+      (λ b _. absurd (eqZ-false {a = c .y} {b = d .y} b (sym e))))
+    where
+      go : (p ≡ c) ⊎ (p ≡ d) → q ≡ p → Got c d q (ByLevel q)
+      go (inl u) v = got-from (v ∙ u)
+      go (inr u) v = got-to (v ∙ u)
+
+  level-passing : (s : Location) (q : Point64) (t : Location) → eqZ (cross-product-sign a c d) (pos 0) ≡ false → eqZ (cross-product-sign b c d) (pos 0) ≡ false
+      → Bool·beq (ltZ (pos 0) (cross-product-sign a c d)) (ltZ (pos 0) (cross-product-sign b c d)) ≡ false
+      → eqZ (cross-product-sign c a b) (pos 0) ≡ false → eqZ (cross-product-sign d a b) (pos 0) ≡ false
+      → Bool·beq (ltZ (pos 0) (cross-product-sign c a b)) (ltZ (pos 0) (cross-product-sign d a b)) ≡ false
+      → met s (intersection a b c d) ≡ Found q t → ByLevel q
+  unfolding cross-product-sign
+  level-passing s q t z1 z2 n12 z3 z4 n34 m =
+      let v1 = level-value a z1 in
+      let v2 = level-value b z2 in
+      let K : Crosses (a .y) (c .y) (b .y) = crosses-of-signs (a .y) (c .y) (b .y) (d .x -ℤ c .x) (v1 .0) (v2 .0) (unlike-first _ _ _ _ n12 (v1 .1) (v2 .1)) in
+      let v3 = sgn-facts′ ((a .x -ℤ c .x) *ℤ (b .y -ℤ a .y)) ((a .y -ℤ c .y) *ℤ (b .x -ℤ a .x)) z3 in
+      let v4 = subst (λ (u : ℤ). (0 < natAbs ((a .y -ℤ u) *ℤ (b .x -ℤ a .x) -ℤ (a .x -ℤ d .x) *ℤ (b .y -ℤ a .y))) × (ltZ (pos 0) (cross-product-sign d a b) ≡ isNegative ((a .y -ℤ u) *ℤ (b .x -ℤ a .x) -ℤ (a .x -ℤ d .x) *ℤ (b .y -ℤ a .y)))) e
+      (sgn-facts′ ((a .x -ℤ d .x) *ℤ (b .y -ℤ a .y)) ((a .y -ℤ d .y) *ℤ (b .x -ℤ a .x)) z4) in
+      let B = ordered (exact (a .x) (b .x) (natAbs (a .y -ℤ c .y)) (natAbs (a .y -ℤ b .y))) (c .x) (d .x) lo hi (natAbs (a .y -ℤ b .y)) l ends
+      (between-ends (a .y) (a .x) (b .y) (b .x) (c .y) (c .x) (d .x) K (v3 .0) (v4 .0) (unlike-plain _ _ _ _ n34 (v3 .1) (v4 .1))) in
+      let f = near-crossing a b c d lim .level e (apart (d .x) (c .x) wide) K in
+      let p : q ≡ f .point = same (workingOf a b c d) s q t (f .point) (subst (λ (k : Crossing). met s k ≡ Found q t) (f .is) m) in
+      subst ByLevel (sym p) (record {
+        crossed = record { extends = lt-of-le-of-lt zero-le (crosses-lt (a .y) (c .y) (b .y) K); crosses = crosses-between (a .y) (c .y) (b .y) K; not-before = B .0; not-behind = B .1 };
+        near-across = f .near-y;
+        near-along = f .near-x;
+      })
+
+  pub level-got : (s : Location) (q : Point64) (t : Location) → met s (settledOf (get-segment-intersection a b c d) (workingOf a b c d)) ≡ Found q t → Got c d q (ByLevel q)
+  unfolding get-segment-intersection intersection
+  level-got s q t =
+      let w = workingOf a b c d in
+      chain w s q t (eqZ (cross-product-sign a c d) (pos 0)) _ _
+      (λ z1. chain w s q t (eqZ (cross-product-sign b c d) (pos 0)) _ _ (λ _ m. nothing w s q t m)
+      (λ z2. level-touch w s q t a (at-start (a .y) (a .x) (b .y) (b .x) (c .y) lo hi (on-level a z1) (off-level b z2))))
+      (λ z1. chain w s q t (eqZ (cross-product-sign b c d) (pos 0)) _ _
+      (λ z2. level-touch w s q t b (at-finish (a .y) (a .x) (b .y) (b .x) (c .y) lo hi (on-level b z2) (off-level a z1)))
+      (λ z2. chain w s q t (Bool·beq (ltZ (pos 0) (cross-product-sign a c d)) (ltZ (pos 0) (cross-product-sign b c d))) _ _ (λ _ m. nothing w s q t m)
+      (λ n12. chain w s q t (eqZ (cross-product-sign c a b) (pos 0)) _ _ (λ _ m. got-from (end-is w s q t c a b m))
+      (λ z3. chain w s q t (eqZ (cross-product-sign d a b) (pos 0)) _ _ (λ _ m. got-to (end-is w s q t d a b m))
+      (λ z4. chain w s q t (Bool·beq (ltZ (pos 0) (cross-product-sign c a b)) (ltZ (pos 0) (cross-product-sign d a b))) _ _ (λ _ m. nothing w s q t m)
+      (λ n34 m. got-near (level-passing s q t z1 z2 n12 z3 z4 n34 m)))))))

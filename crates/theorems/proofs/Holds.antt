@@ -1,0 +1,53 @@
+-- What holds of an answer unless it is a refusal, and of all points of a list.
+use mathlib.Core.Path.{_≡_, refl}
+use mathlib.Core.Bool.{Bool, true, false, cond}
+use mathlib.Core.List.{List, [], _∷_, _++_}
+use Prim.Native.Nat.{ℕ, zero, suc, _+_, _<_}
+use native.Mathlib.Nat.{not-suc-le-zero, le-of-suc-le-suc}
+use lib.ListN.{length, getD, drop}
+use Rattle.plane.specs.declared.point.Point64.{Point64}
+use Rattle.plane.specs.declared.location.Location.{Location}
+use Rattle.plane.specs.declared.crossing.Search.{Search}
+use Rattle.plane.specs.declared.crossing.Search.the-variants.{Missed, Found}
+use Rattle.plane.specs.Basics.{Try, refuse, ok, _>>=_}
+
+pub data Holds {A : Type 0} (Q : A → Type 0) : Try A → Type 0 where
+  refused : {n : ℕ} → Holds Q (refuse n)
+  held : {a : A} → Q a → Holds Q (ok a)
+
+pub bind : {A B : Type 0} (Q : A → Type 0) (R : B → Type 0) (m : Try A) (f : A → Try B) → Holds Q m → ((a : A) → Q a → Holds R (f a)) → Holds R (m >>= f)
+bind Q R m f refused k = refused
+bind Q R m f (held {a} h) k = k a h
+
+pub either : {A : Type 0} (Q : A → Type 0) (b : Bool) (x y : Try A) → (b ≡ true → Holds Q x) → (b ≡ false → Holds Q y) → Holds Q (cond b x y)
+either Q true x y h k = h refl
+either Q false x y h k = k refl
+
+pub by-search : {A : Type 0} (Q : A → Type 0) (m : Search) (x : Try A) (f : Point64 → Location → Try A) → (m ≡ Missed → Holds Q x) → ((q : Point64) (t : Location) → m ≡ Found q t → Holds Q (f q t))
+    → Holds Q (elim m [ Missed ↦ x | Found q t ↦ f q t ])
+by-search Q Missed x f h k = h refl
+by-search Q (Found q t) x f h k = k q t refl
+
+-- ---- all points of a list
+abbrev pub All : (Point64 → Type 0) → List Point64 → Type 0
+All P [] = Unit {0}
+All P (p ∷ ps) = P p × All P ps
+
+module _ (P : Point64 → Type 0) where
+  pub all-push : (ps : List Point64) (p : Point64) → All P ps → P p → All P (ps ++ p ∷ [])
+  all-push [] p h q = (q, tt)
+  all-push (x ∷ ps) p h q = (h .0, all-push ps p (h .1) q)
+
+  pub all-drop : (i : ℕ) (ps : List Point64) → All P ps → All P (drop i ps)
+  all-drop zero ps h = h
+  all-drop (suc i) [] h = tt
+  all-drop (suc i) (p ∷ ps) h = all-drop i ps (h .1)
+
+  pub all-at : (ps : List Point64) (i : ℕ) (d : Point64) → All P ps → i < length ps → P (getD ps i d)
+  all-at [] i d h l = absurd (not-suc-le-zero l)
+  all-at (p ∷ ps) zero d h l = h .0
+  all-at (p ∷ ps) (suc i) d h l = all-at ps i d (h .1) (le-of-suc-le-suc l)
+
+  pub all-of : (ps : List Point64) (d : Point64) → ((i : ℕ) → i < length ps → P (getD ps i d)) → All P ps
+  all-of [] d h = tt
+  all-of (p ∷ ps) d h = (h zero (Prim.Native.Nat.suc-le-suc Prim.Native.Nat.zero-le), all-of ps d (λ i l. h (suc i) (Prim.Native.Nat.suc-le-suc l)))

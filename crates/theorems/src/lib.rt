@@ -1,0 +1,1 @@
+// Theorems about the definition: proofs/ is the content of the crate, and it has no code.
