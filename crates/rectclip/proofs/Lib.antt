@@ -1,0 +1,5 @@
+-- Laws that the functions' proofs cite.
+pub mod Memory
+pub mod Columns
+pub mod Coordinates
+pub mod Clearing

@@ -1,0 +1,2 @@
+-- Words of the private functions' contracts, and the answers of the public ones.
+pub mod Memory
