@@ -3,3 +3,7 @@ pub mod Memory
 pub mod Columns
 pub mod Coordinates
 pub mod Clearing
+pub mod Limits
+pub mod Walking
+pub mod Adding
+pub mod Turning
