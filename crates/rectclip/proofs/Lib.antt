@@ -1,0 +1,2 @@
+-- `Reach`: coordinates within the limit are within reach.
+pub mod Reach

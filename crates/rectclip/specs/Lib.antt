@@ -1,0 +1,2 @@
+-- What the clippers' functions ask of their numbers, and what they answer.
+pub mod Bounds

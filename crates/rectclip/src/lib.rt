@@ -1,0 +1,2 @@
+// The rectangle clippers: RectClip64 for closed paths and RectClipLines64 for open ones, of rectclip.rs.
+mod segment;
