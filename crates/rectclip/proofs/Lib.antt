@@ -1,2 +1,3 @@
 -- `Reach`: coordinates within the limit are within reach.
 pub mod Reach
+pub mod Segments

@@ -1,2 +1,3 @@
 -- What the clippers' functions ask of their numbers, and what they answer.
 pub mod Bounds
+pub mod Parted
