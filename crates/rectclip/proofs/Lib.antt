@@ -7,3 +7,6 @@ pub mod Limits
 pub mod Walking
 pub mod Adding
 pub mod Turning
+-- `Reach`: coordinates within the limit are within reach.
+pub mod Reach
+pub mod Segments
