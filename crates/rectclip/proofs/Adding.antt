@@ -21,7 +21,8 @@ use Rattle.rectclip.specs.declared.walk.WalkState.{WalkState}
 use Rattle.rectclip.specs.declared.walk.Step.{Step}
 use Rattle.rectclip.specs.declared.walk.Step.the-variants.{Walked, Refused}
 use Rattle.rectclip.specs.Memory.{at, put, put-point, Room, column}
-use Rattle.rectclip.specs.Walking.{location, walk-of, Close, Fits, Adds, Stepped}
+use Rattle.rectclip.specs.Bounds.{Reached}
+use Rattle.rectclip.specs.Walking.{location, walk-of, Fits, Adds, Stepped}
 use Rattle.rectclip.proofs.Memory.{length-put, room-put, at-put, at-put-slot, at-put-field}
 use Rattle.rectclip.proofs.Columns.{column-pushed, column-other}
 use Rattle.rectclip.proofs.Walking.{step-walked, step-refused}
@@ -83,8 +84,8 @@ module _ {store : List ℤ} {work : List ℕ} {s : WalkState} (F : Fits store wo
   pub walk-at : (i : ℕ) → i < s .points → pt-at (walk-of store work s .points) i ≡ pt-at (points-of store) i
   walk-at i h = ap (λ (l : List Point64). pt-at l i) walk-points ∙ getD-take (s .points) (points-of store) i origin h
 
-  module _ (h : s .points < length store / 2) (pt : Point64) (near : Close pt) where
-    close-behind : (i : ℕ) → i < s .points + 1 → Close (pt-at (points-of (put-point store (s .points) pt)) i)
+  module _ (h : s .points < length store / 2) (pt : Point64) (near : Reached pt) where
+    close-behind : (i : ℕ) → i < s .points + 1 → Reached (pt-at (points-of (put-point store (s .points) pt)) i)
     close-behind i hi =
         rw (points-put store (s .points) pt)
         (elim (ℕ-discrete i (s .points)) [

@@ -1,4 +1,6 @@
 -- Laws that the functions' proofs cite.
+pub mod Reach
+pub mod Segments
 pub mod Memory
 pub mod Columns
 pub mod Coordinates
@@ -7,6 +9,5 @@ pub mod Limits
 pub mod Walking
 pub mod Adding
 pub mod Turning
--- `Reach`: coordinates within the limit are within reach.
-pub mod Reach
-pub mod Segments
+pub mod Scanning
+pub mod Moving

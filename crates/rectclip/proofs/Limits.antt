@@ -14,7 +14,7 @@ use Rattle.plane.specs.declared.location.Location.the-variants.{Left, Top, Righ
 use Rattle.plane.specs.Limit.{in-limit, all-in-limit, rect-in-limit, Limited}
 use Rattle.plane.specs.Points.{pt-at, points-of}
 use Rattle.plane.specs.Rectangle.{corner}
-use Rattle.rectclip.specs.Walking.{Close}
+use Rattle.rectclip.specs.Bounds.{Reached}
 
 both : (a b : Bool) → (a && b) ≡ true → (a ≡ true) × (b ≡ true)
 both true b e = (refl, e)
@@ -43,10 +43,10 @@ framed r e =
     let (a, b) = both (in-limit (r .left)) _ e2 in
     record { left = within (r .left) a; top = within (r .top) b; right = within (r .right) c; bottom = within (r .bottom) d }
 
-pub close-of : {p : Point64} → Limited p → Close p
+pub close-of : {p : Point64} → Limited p → Reached p
 close-of L = record { across = omega (arith, L .across); down = omega (arith, L .down) }
 
-pub close-corner : (r : Rect64) (loc : Location) → rect-in-limit r ≡ true → Close (corner r loc)
+pub close-corner : (r : Rect64) (loc : Location) → rect-in-limit r ≡ true → Reached (corner r loc)
 close-corner r Left e = let F = framed r e in record { across = omega (arith, F .left); down = omega (arith, F .top) }
 close-corner r Top e = let F = framed r e in record { across = omega (arith, F .right); down = omega (arith, F .top) }
 close-corner r Right e = let F = framed r e in record { across = omega (arith, F .right); down = omega (arith, F .bottom) }

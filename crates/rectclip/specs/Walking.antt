@@ -3,8 +3,8 @@ use mathlib.Core.Path.{_≡_}
 use mathlib.Core.List.{List, map}
 use Prim.Native.Nat.{ℕ, zero, suc, _+_, _*_, _/_, _<_, _≤_}
 use lib.ListN.{length, take}
-use lib.IntN.{ℤ, natAbs}
-use mathlib.Core.Bool.{Bool, true}
+use lib.IntN.{ℤ}
+use mathlib.Core.Bool.{Bool, true, false}
 use Rattle.plane.specs.declared.point.Point64.{Point64}
 use Rattle.plane.specs.declared.location.Location.{Location}
 use Rattle.plane.specs.declared.location.Location.the-variants.{Left, Top, Right, Bottom, Inside}
@@ -13,11 +13,12 @@ use Rattle.plane.specs.Basics.{if_then_else_, Try, refuse, ok}
 use Rattle.plane.specs.Limit.{all-in-limit, rect-in-limit}
 use Rattle.plane.specs.Locations.{get-adjacent-location}
 use Rattle.plane.specs.Points.{pt-at, points-of}
-use Rattle.plane.specs.Rectangle.{corner}
-use Rattle.reference.specs.Walk.{Walk, Next}
+use Rattle.plane.specs.Rectangle.{is-empty, corner}
+use Rattle.reference.specs.Walk.{Walk}
 use Rattle.rectclip.specs.declared.walk.WalkState.{WalkState}
 use Rattle.rectclip.specs.declared.walk.Step.{Step}
 use Rattle.rectclip.specs.declared.walk.Step.the-variants.{Walked, Refused}
+use Rattle.rectclip.specs.Bounds.{Reached}
 use Rattle.rectclip.specs.Memory.{at, Room, column}
 
 -- the location of a number of the side order
@@ -41,11 +42,6 @@ abbrev pub stepped : Step → List ℤ → List ℕ → Try Walk
 stepped (Walked s) store work = ok (walk-of store work s)
 stepped (Refused n) store work = refuse n
 
--- at most one unit outside the coordinate limit, as a crossing may lie
-pub record Close (p : Point64) : Type 0 where
-  pub across : natAbs (p .x) ≤ 33554433
-  pub down : natAbs (p .y) ≤ 33554433
-
 -- the walk has its place in the lists, with a slot for each of W points and one more
 pub record Fits (store : List ℤ) (work : List ℕ) (s : WalkState) : Type 0 where
   pub room : Room (length store / 2 + 1) work
@@ -54,17 +50,18 @@ pub record Fits (store : List ℤ) (work : List ℕ) (s : WalkState) : Type 0 wh
   pub starts : s .starts ≤ s .points
   pub start-locs : s .«start_locs» ≤ length store / 2
   pub begun : (i : ℕ) → i < s .starts → at 4 work i < s .points
-  pub near : (i : ℕ) → i < s .points → Close (pt-at (points-of store) i)
+  pub near : (i : ℕ) → i < s .points → Reached (pt-at (points-of store) i)
 
--- rectangle and path within the coordinate limit
+-- a rectangle that is not empty, and a path, within the coordinate limit
 pub record Sheet (rect : Rect64) (path : List ℤ) : Type 0 where
+  pub extent : is-empty rect ≡ false
   pub frame : rect-in-limit rect ≡ true
   pub points : all-in-limit path ≡ true
 
 -- what a step of the walk needs, with a point to add; with all points of a path; with corners of the rectangle
 pub record Adds (store : List ℤ) (work : List ℕ) (s : WalkState) (pt : Point64) : Type 0 where
   pub fits : Fits store work s
-  pub close : Close pt
+  pub close : Reached pt
 
 pub record AddsAll (path store : List ℤ) (work : List ℕ) (s : WalkState) : Type 0 where
   pub fits : Fits store work s
