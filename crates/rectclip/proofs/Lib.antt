@@ -1,3 +1,4 @@
 -- `Reach`: coordinates within the limit are within reach.
 pub mod Reach
 pub mod Segments
+pub mod Searches
