@@ -2,3 +2,5 @@
 pub mod Reach
 pub mod Segments
 pub mod Searches
+pub mod PathBounds
+pub mod Sheets
