@@ -11,3 +11,6 @@ pub mod Adding
 pub mod Turning
 pub mod Scanning
 pub mod Moving
+pub mod Searches
+pub mod PathBounds
+pub mod Sheets

@@ -1,9 +1,15 @@
 -- What the functions ask of their points and lists: coordinates within the limit, or one unit past it, as a crossing's may be.
-use Prim.Native.Nat.{_≤_}
-use lib.IntN.{natAbs}
+use mathlib.Core.List.{List}
+use Prim.Native.Nat.{_%_, _≤_}
+use lib.ListN.{length}
+use lib.IntN.{ℤ, natAbs}
+use Rattle.plane.specs.Points.{points-of}
 use mathlib.Core.Path.{_≡_}
-use Rattle.rounding.specs.Coordinate.{Limit}
+use mathlib.Core.Bool.{false}
 use Rattle.plane.specs.Limit.{Limited}
+use Rattle.plane.specs.Rectangle.{is-empty, get-bounds-path}
+use Rattle.reference.specs.Demand.{AtMostOneOutside}
+use Rattle.theorems.proofs.Demand.{LimitedRect}
 use Rattle.plane.specs.declared.crossing.Search.{Search}
 use Rattle.plane.specs.declared.crossing.Search.the-variants.{Found}
 use Rattle.plane.specs.declared.location.Location.{Location}
@@ -21,19 +27,18 @@ pub record Turn (p q r : Point64) : Type 0 where
   pub second : Reached q
   pub third : Reached r
 
--- a rectangle within the limit
-pub record LimitedRect (r : Rect64) : Type 0 where
-  pub left : Limit (r .left)
-  pub top : Limit (r .top)
-  pub right : Limit (r .right)
-  pub bottom : Limit (r .bottom)
-
 -- what a search for a crossing asks: rectangle and segment are within the limit
 pub record SearchLimits (r : Rect64) (p p2 : Point64) : Type 0 where
   pub rect : LimitedRect r
   pub start : Limited p
   pub end : Limited p2
 
--- a point that a search found is within reach
-pub record InReach (s : Search) : Type 0 where
-  pub within : (q : Point64) (loc : Location) → s ≡ Found q loc → Reached q
+-- a point that a search found, of a rectangle that is not empty, is at most one unit outside the rectangle
+pub record InReach (r : Rect64) (s : Search) : Type 0 where
+  pub outside : is-empty r ≡ false → (q : Point64) (loc : Location) → s ≡ Found q loc → AtMostOneOutside r q
+  pub reached : is-empty r ≡ false → (q : Point64) (loc : Location) → s ≡ Found q loc → Reached q
+
+-- coordinates in pairs, and their bounds
+pub record Surveyed (coords : List ℤ) (bounds : Rect64) : Type 0 where
+  pub even : length coords % 2 ≡ 0
+  pub bound : bounds ≡ get-bounds-path (points-of coords)

@@ -4,3 +4,4 @@ pub mod Parted
 pub mod Memory
 pub mod Walking
 pub mod Moving
+pub mod Answers

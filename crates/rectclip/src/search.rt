@@ -5,10 +5,13 @@ ghost use lib.Signed.{ltZ};
 ghost use Rattle.plane.specs.Basics.{if_then_else_};
 ghost use Rattle.plane.specs.Limit.{AllLimited};
 ghost use Rattle.plane.specs.Segment.{workingOf, settledOf};
-ghost use Rattle.plane.specs.Intersection.{at-end, get-segment-intersection, edge-intersection, side-intersection, get-intersection};
+ghost use Rattle.plane.specs.Intersection.{at-end, get-segment-intersection, edge-from, edge-to, edge-intersection, side-intersection, get-intersection};
+ghost use Rattle.plane.specs.Points.{pt-at};
+ghost use Rattle.plane.specs.Rectangle.{as-path};
+ghost use Rattle.plane.specs.declared.location.Location.the-variants.{Inside};
 ghost use Rattle.plane.specs.declared.crossing.Crossing.the-variants.{At, Nothing};
 ghost use Rattle.rectclip.specs.Bounds.{SearchLimits, InReach};
-ghost use Rattle.rectclip.specs.Parted.{edge-ends};
+ghost use Rattle.rectclip.specs.Parted.{edge-ends, beyond-intersection};
 use crate::segment::cross_product_sign;
 use crate::segment::get_segment_intersect_pt;
 use plane::crossing::Crossing;
@@ -85,4 +88,107 @@ pub(crate) fn get_segment_intersection(
         return Crossing::Nothing;
     }
     edge_ends(p1, p2, p3, p4)
+}
+
+// Where the edge of a side starts.
+fn edge_from(rect: Rect64, side: Location) -> Point64
+    ensures { λ r. ⌜ r ≡ pt-at (as-path rect) (edge-from side) ⌝ }
+{
+    match side {
+        Location::Left => rect.corner(Location::Left),
+        Location::Top => rect.corner(Location::Left),
+        Location::Right => rect.corner(Location::Top),
+        Location::Bottom => rect.corner(Location::Right),
+        Location::Inside => rect.corner(Location::Left),
+    }
+}
+
+// Where the edge of a side ends.
+fn edge_to(rect: Rect64, side: Location) -> Point64
+    ensures { λ r. ⌜ r ≡ pt-at (as-path rect) (edge-to side) ⌝ }
+{
+    match side {
+        Location::Left => rect.corner(Location::Bottom),
+        Location::Top => rect.corner(Location::Top),
+        Location::Right => rect.corner(Location::Right),
+        Location::Bottom => rect.corner(Location::Bottom),
+        Location::Inside => rect.corner(Location::Left),
+    }
+}
+
+// The crossing of the segment from p to p2 with the edge of a side.
+pub(crate) fn edge_intersection(rect: Rect64, side: Location, p: Point64, p2: Point64) -> Search
+    requires { ⌜ SearchLimits rect p p2 ⌝ }
+    ensures { λ r. ⌜ r ≡ edge-intersection rect side p p2 ⌝ }
+{
+    let a = edge_from(rect, side);
+    let b = edge_to(rect, side);
+    let crossing = get_segment_intersection(p, p2, a, b);
+    match crossing {
+        Crossing::Nothing => Search::Missed,
+        Crossing::At(q) => Search::Found(q, side),
+        Crossing::Along(t) => Search::Missed,
+    }
+}
+
+// The crossing with the edge of a side that p is beyond.
+fn beyond_intersection(rect: Rect64, side: Location, p: Point64, p2: Point64) -> Search
+    requires { ⌜ SearchLimits rect p p2 ⌝ }
+    ensures { λ r. ⌜ r ≡ beyond-intersection rect side p p2 ⌝ }
+{
+    if rect.beyond(side, p) {
+        return edge_intersection(rect, side, p, p2);
+    }
+    Search::Missed
+}
+
+// The crossing with the side's own edge; with the lower neighbour's, if p is beyond that; with the upper neighbour's.
+pub(crate) fn side_intersection(rect: Rect64, side: Location, p: Point64, p2: Point64) -> Search
+    requires { ⌜ SearchLimits rect p p2 ⌝ }
+    ensures { λ r. ⌜ r ≡ side-intersection rect side p p2 ⌝ }
+{
+    let own = edge_intersection(rect, side, p, p2);
+    let Search::Missed = own else {
+        return own;
+    };
+    let low = beyond_intersection(rect, side.lower(), p, p2);
+    let Search::Missed = low else {
+        return low;
+    };
+    edge_intersection(rect, side.upper(), p, p2)
+}
+
+// The crossing with the first of the four edges that has one.
+fn inside_intersection(rect: Rect64, p: Point64, p2: Point64) -> Search
+    requires { ⌜ SearchLimits rect p p2 ⌝ }
+    ensures { λ r. ⌜ r ≡ get-intersection rect p p2 Inside ⌝ }
+{
+    let left = edge_intersection(rect, Location::Left, p, p2);
+    let Search::Missed = left else {
+        return left;
+    };
+    let top = edge_intersection(rect, Location::Top, p, p2);
+    let Search::Missed = top else {
+        return top;
+    };
+    let right = edge_intersection(rect, Location::Right, p, p2);
+    let Search::Missed = right else {
+        return right;
+    };
+    edge_intersection(rect, Location::Bottom, p, p2)
+}
+
+// The crossing of the segment from p to p2 with the boundary, seen from a location, and its side.
+pub(crate) fn get_intersection(rect: Rect64, p: Point64, p2: Point64, loc: Location) -> Search
+    requires { ⌜ SearchLimits rect p p2 ⌝ }
+    ensures is { λ r. ⌜ r ≡ get-intersection rect p p2 loc ⌝ }
+    ensures near { λ r. ⌜ InReach rect r ⌝ }
+{
+    match loc {
+        Location::Left => side_intersection(rect, Location::Left, p, p2),
+        Location::Top => side_intersection(rect, Location::Top, p, p2),
+        Location::Right => side_intersection(rect, Location::Right, p, p2),
+        Location::Bottom => side_intersection(rect, Location::Bottom, p, p2),
+        Location::Inside => inside_intersection(rect, p, p2),
+    }
 }

@@ -49,3 +49,4 @@ pub mod Counted
 pub mod WalkEnters
 pub mod ClosedArea
 pub mod EntryMissed
+pub mod Search

@@ -8,11 +8,6 @@ use Rattle.plane.specs.Intersection.{at-end}
 use borrow.Author.Needs.{needs}
 use Rattle.rectclip.proofs.search.at_end.Statement.{statement}
 use Rattle.rectclip.proofs.search.at_end.Tie as tie
-use Rattle.rectclip.proofs.search.at_end.Reads as reads
-use Rattle.rectclip.proofs.search.at_end.Lts as lts
-use Rattle.plane.proofs.direction.is_horizontal.Reads as is-horizontal-reads
-use Rattle.plane.proofs.point.Point64.equals.Reads as equals-reads
-use Rattle.rectclip.proofs.search.point_between.Reads as point-between-reads
 
 known : (s : tie.Start) → SFits w64 (s .args .p .x) × SFits w64 (s .args .p .y) × SFits w64 (s .args .a .x) × SFits w64 (s .args .a .y) × SFits w64 (s .args .b .x) × SFits w64 (s .args .b .y)
 known s = search needs

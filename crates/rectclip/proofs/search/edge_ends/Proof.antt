@@ -4,11 +4,6 @@ use Rattle.rectclip.proofs.Segments.{zero-yes, zero-no, alike, edge-fir
 use borrow.Author.Needs.{needs}
 use Rattle.rectclip.proofs.search.edge_ends.Statement.{statement}
 use Rattle.rectclip.proofs.search.edge_ends.Tie as tie
-use Rattle.rectclip.proofs.search.edge_ends.Reads as reads
-use Rattle.rectclip.proofs.search.edge_ends.Lts as lts
-use Rattle.rectclip.proofs.search.at_end.Reads as at-end-reads
-use Rattle.rectclip.proofs.segment.cross_product_sign.Reads as cross-product-sign-reads
-use Rattle.rectclip.proofs.segment.get_segment_intersect_pt.Reads as get-segment-intersect-pt-reads
 
 cross-product-sign-requires : tie.Need-cross-product-sign-requires
 cross-product-sign-requires c κs = search needs

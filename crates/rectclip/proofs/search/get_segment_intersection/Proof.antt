@@ -4,11 +4,6 @@ use Rattle.rectclip.proofs.Segments.{zero-yes, zero-no, alike, collinea
 use borrow.Author.Needs.{needs}
 use Rattle.rectclip.proofs.search.get_segment_intersection.Statement.{statement}
 use Rattle.rectclip.proofs.search.get_segment_intersection.Tie as tie
-use Rattle.rectclip.proofs.search.get_segment_intersection.Reads as reads
-use Rattle.rectclip.proofs.search.get_segment_intersection.Lts as lts
-use Rattle.rectclip.proofs.search.at_end.Reads as at-end-reads
-use Rattle.rectclip.proofs.search.edge_ends.Reads as edge-ends-reads
-use Rattle.rectclip.proofs.segment.cross_product_sign.Reads as cross-product-sign-reads
 
 cross-product-sign-requires : tie.Need-cross-product-sign-requires
 cross-product-sign-requires c κs = search needs

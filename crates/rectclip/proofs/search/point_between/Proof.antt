@@ -2,8 +2,6 @@
 use Rattle.integers.specs.Tests.{plain}
 use Rattle.rectclip.proofs.search.point_between.Statement.{statement}
 use Rattle.rectclip.proofs.search.point_between.Tie as tie
-use Rattle.rectclip.proofs.search.point_between.Reads as reads
-use Rattle.rectclip.proofs.search.point_between.Lts as lts
 
 returns : tie.Need-returns
 returns c =
