@@ -14,3 +14,5 @@ pub mod Moving
 pub mod Searches
 pub mod PathBounds
 pub mod Sheets
+pub mod Passing
+pub mod Crossing

@@ -5,3 +5,4 @@ pub mod Memory
 pub mod Walking
 pub mod Moving
 pub mod Answers
+pub mod Crossing
