@@ -16,3 +16,4 @@ pub mod PathBounds
 pub mod Sheets
 pub mod Passing
 pub mod Crossing
+pub mod Opening

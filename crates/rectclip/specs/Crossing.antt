@@ -8,10 +8,12 @@ use lib.ListN.{length}
 use Rattle.plane.specs.declared.point.Point64.{Point64}
 use Rattle.plane.specs.declared.rect.Rect64.{Rect64}
 use Rattle.plane.specs.declared.location.Location.{Location}
-use Rattle.plane.specs.Basics.{Try, _>>=_}
-use Rattle.reference.specs.Walk.{Next, get-next-location}
+use Rattle.plane.specs.Basics.{if_then_else_, Try, ok, _>>=_}
+use Rattle.plane.specs.Locations.{is-inside}
+use Rattle.plane.specs.Points.{pt-at}
+use Rattle.reference.specs.Walk.{Walk, Next, nothing-yet, add, get-next-location}
 use Rattle.reference.specs.Lines.{line-from}
-use Rattle.plane.specs.Limit.{rect-in-limit, Limited}
+use Rattle.plane.specs.Limit.{all-in-limit, rect-in-limit, Limited}
 use Rattle.plane.specs.Rectangle.{is-empty}
 use Rattle.rectclip.specs.declared.walk.WalkState.{WalkState}
 use Rattle.rectclip.specs.declared.walk.Step.{Step}
@@ -37,6 +39,10 @@ step-of (Stopped k) = Refused k
 abbrev pub one-pass : (ℕ → Bool) → Rect64 → List Point64 → Next → Try Next
 one-pass full rect path s = get-next-location full rect path (s .walk) (s .loc) (s .i) >>= line-from full rect path (s .loc)
 
+-- a walk that starts inside has the first point
+abbrev pub first-point : (ℕ → Bool) → List Point64 → Location → Try Walk
+first-point full path loc = if is-inside loc then add full nothing-yet (pt-at path 0) false else ok nothing-yet
+
 -- a crossing at ip of the segment from prev-pt to pt
 pub record Crosses (rect : Rect64) (store : List ℤ) (work : List ℕ) (s : WalkState) (prev-pt pt ip : Point64) : Type 0 where
   pub fits : Fits store work s
@@ -52,13 +58,20 @@ pub record PassFrom (rect : Rect64) (path store : List ℤ) (work : List ℕ) (n
   pub sheet : Sheet rect path
   pub begun : 1 ≤ n .i
 
--- lists with room for a walk, and a sheet to walk
+-- lists with room for a walk
+pub record Starts (path store : List ℤ) (work : List ℕ) : Type 0 where
+  pub room : Room (length store / 2 + 1) work
+  pub few : length store / 2 ≤ 65536
+  pub limit : all-in-limit path ≡ true
+  pub some : 1 ≤ length path / 2
+
+-- the same, and a sheet to walk
 pub record Ready (rect : Rect64) (path store : List ℤ) (work : List ℕ) : Type 0 where
   pub room : Room (length store / 2 + 1) work
   pub few : length store / 2 ≤ 65536
   pub sheet : Sheet rect path
 
--- the same, of a path that has points
+-- the same, of a sheet whose path has points
 pub record Walkable (rect : Rect64) (path store : List ℤ) (work : List ℕ) : Type 0 where
   pub ready : Ready rect path store work
   pub some : 1 ≤ length path / 2

@@ -8,7 +8,7 @@ ghost use Rattle.reference.specs.Walk.{no-room};
 ghost use Rattle.reference.specs.Lines.{first-off-edge, line-through, line-cross, line-from, line-passes, line-walk-from, walk-open};
 ghost use Rattle.rectclip.specs.Walking.{walk-of, Stepped};
 ghost use Rattle.rectclip.specs.Moving.{next-of, Moved};
-ghost use Rattle.rectclip.specs.Crossing.{move-of, step-of, one-pass, Crosses, PassFrom, Ready, Walkable};
+ghost use Rattle.rectclip.specs.Crossing.{move-of, step-of, one-pass, first-point, Crosses, PassFrom, Starts, Ready, Walkable};
 use crate::lists::point_at;
 use crate::next::Move;
 use crate::next::NextState;
@@ -187,4 +187,55 @@ fn line_passes(
         left -= 1;
     }
     Move::To(s)
+}
+
+// A walk that starts inside has the first point.
+fn first_point(path: &[i64], store: &mut [i64], work: &mut [u32], loc: Location) -> Step
+    requires { ⌜ Starts (now path) (now store) (now work) ⌝ }
+    ensures { λ r. ⌜ Stepped (first-point (no-room (length (now (store .entry)) / 2)) (points-of (now (path .entry))) loc) (now (store .exit)) (now (work .exit)) r ⌝ }
+{
+    if loc.is_inside() {
+        return add(store, work, WalkState::new(), point_at(path, 0), false);
+    }
+    Step::Walked(WalkState::new())
+}
+
+// The walk from a starting location.
+fn line_walk_from(
+    rect: Rect64,
+    path: &[i64],
+    store: &mut [i64],
+    work: &mut [u32],
+    loc: Location,
+) -> Step
+    requires { ⌜ Walkable rect (now path) (now store) (now work) ⌝ }
+    ensures { λ r. ⌜ Stepped (line-walk-from (no-room (length (now (store .entry)) / 2)) rect (points-of (now (path .entry))) loc) (now (store .exit)) (now (work .exit)) r ⌝ }
+{
+    let r = first_point(path, store, work, loc);
+    let Step::Walked(walk) = r else {
+        return r;
+    };
+    step_of(line_passes(rect, path, store, work, NextState { walk, loc, i: 1 }))
+}
+
+// `execute_internal` of an open path.
+pub(crate) fn line_walk(rect: Rect64, path: &[i64], store: &mut [i64], work: &mut [u32]) -> Step
+    requires { ⌜ Ready rect (now path) (now store) (now work) ⌝ }
+    ensures { λ r. ⌜ Stepped (walk-open (no-room (length (now (store .entry)) / 2)) rect (points-of (now (path .entry)))) (now (store .exit)) (now (work .exit)) r ⌝ }
+{
+    if path.len() / 2 < 2 {
+        return Step::Walked(WalkState::new());
+    }
+    let at_first = rect.get_location(point_at(path, 0));
+    let loc = at_first.loc;
+    if at_first.off {
+        return line_walk_from(rect, path, store, work, loc);
+    }
+    let Search::Found(_, prev) = first_off_edge(rect, path) else {
+        return add_all(path, store, work, WalkState::new());
+    };
+    if prev.is_inside() {
+        return line_walk_from(rect, path, store, work, Location::Inside);
+    }
+    line_walk_from(rect, path, store, work, loc)
 }
