@@ -18,6 +18,8 @@ use Rattle.plane.specs.Locations.{is-inside}
 use Rattle.plane.specs.Points.{pt-at, points-of}
 use Rattle.reference.specs.Walk.{Walk, Next, no-room, add}
 use Rattle.reference.specs.Lines.{line-through, line-cross, line-from}
+use Rattle.rectclip.specs.declared.answer.Refusal.{Refusal}
+use Rattle.rectclip.specs.declared.answer.Refusal.the-variants.{CrossingLost}
 use Rattle.rectclip.specs.declared.walk.WalkState.{WalkState}
 use Rattle.rectclip.specs.declared.walk.Step.{Step}
 use Rattle.rectclip.specs.declared.walk.Step.the-variants.{Walked, Refused}
@@ -47,11 +49,11 @@ module _ (rect : Rect64) (store : List ℤ) (work : List ℕ) (nx : NextState) (
   here = next-of store work nx
 
   module _ {f : Search} (ef : f ≡ get-intersection rect prev-pt pt prev) where
-    pub through-none : f ≡ Missed → Moved (line-through full rect here prev prev-pt pt ip) (nx .i) store work (Stopped 9)
+    pub through-none : f ≡ Missed → Moved (line-through full rect here prev prev-pt pt ip) (nx .i) store work (Stopped CrossingLost)
     through-none e = move-stopped (through-missed full rect here prev prev-pt pt ip (sym ef ∙ e))
 
     module _ {ip2 : Point64} {l : Location} (e : f ≡ Found ip2 l) {store1 : List ℤ} {work1 : List ℕ} {r : Step} (R : Stepped (add full (walk-of store work (nx .walk)) ip2 true) store1 work1 r) where
-      pub through-stop : (k : ℕ) → r ≡ Refused k → {m : Move} → m ≡ move-of r (nx .loc) (nx .i) → Moved (line-through full rect here prev prev-pt pt ip) (nx .i) store1 work1 m
+      pub through-stop : (k : Refusal) → r ≡ Refused k → {m : Move} → m ≡ move-of r (nx .loc) (nx .i) → Moved (line-through full rect here prev prev-pt pt ip) (nx .i) store1 work1 m
       through-stop k q em = rw em (by (through-found full rect here prev prev-pt pt ip (sym ef ∙ e)) (step-stops R q (λ w. add full w ip false >>= beside nx) (nx .loc) (nx .i)))
 
       pub through-go : (w : WalkState) → r ≡ Walked w → length store1 ≡ length store → {store2 : List ℤ} {work2 : List ℕ} {r2 : Step}

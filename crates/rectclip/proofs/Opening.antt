@@ -21,6 +21,7 @@ use Rattle.plane.specs.Points.{pt-at, points-of}
 use Rattle.plane.specs.Rectangle.{get-location}
 use Rattle.reference.specs.Walk.{Walk, Next, no-room, nothing-yet, add, add-all}
 use Rattle.reference.specs.Lines.{first-off-edge, line-passes, line-walk-from, walk-open}
+use Rattle.rectclip.specs.declared.answer.Refusal.{Refusal}
 use Rattle.rectclip.specs.declared.walk.WalkState.{WalkState}
 use Rattle.rectclip.specs.declared.walk.Step.{Step}
 use Rattle.rectclip.specs.declared.walk.Step.the-variants.{Walked, Refused}
@@ -50,6 +51,7 @@ fits-fresh R h = record {
   starts = omega arith;
   start-locs = omega arith;
   begun = λ i q. absurd (omega arith);
+  rising = λ i q. absurd (omega arith);
   near = λ i q. absurd (omega arith);
 }
 
@@ -84,7 +86,7 @@ module _ (rect : Rect64) (path store : List ℤ) (loc : Location) where
   as-defined = refl
 
   module _ {store1 : List ℤ} {work1 : List ℕ} {r : Step} (R : Stepped (first-point full P loc) store1 work1 r) where
-    pub walk-lost : (k : ℕ) → r ≡ Refused k → Stepped (line-walk-from full rect P loc) store1 work1 r
+    pub walk-lost : (k : Refusal) → r ≡ Refused k → Stepped (line-walk-from full rect P loc) store1 work1 r
     walk-lost k e = rw e (step-refused (on-refuse rest (refused-is R e) ∙ as-defined))
 
     pub walk-passed : (s : WalkState) → r ≡ Walked s → length store1 ≡ length store → {store2 : List ℤ} {work2 : List ℕ} {m : Move} {j : ℕ}

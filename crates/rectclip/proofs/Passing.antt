@@ -22,6 +22,8 @@ use Rattle.plane.specs.Points.{origin, pt-at, points-of}
 use Rattle.plane.specs.Rectangle.{get-location}
 use Rattle.reference.specs.Walk.{Walk, Next, no-room, add, get-next-location}
 use Rattle.reference.specs.Lines.{first-off-edge, line-through, line-cross, line-from, line-passes}
+use Rattle.rectclip.specs.declared.answer.Refusal.{Refusal}
+use Rattle.rectclip.specs.Answers.{number}
 use Rattle.rectclip.specs.declared.walk.WalkState.{WalkState}
 use Rattle.rectclip.specs.declared.walk.Step.{Step}
 use Rattle.rectclip.specs.declared.walk.Step.the-variants.{Walked, Refused}
@@ -48,7 +50,7 @@ module _ {goal : Try Walk} {store : List ℤ} {work : List ℕ} {r : Step} (R : 
   pub step-then : {s : WalkState} → r ≡ Walked s → (f : Walk → Try Next) {from : ℕ} {store′ : List ℤ} {work′ : List ℕ} {m : Move} → Moved (f (walk-of store work s)) from store′ work′ m → Moved (goal >>= f) from store′ work′ m
   step-then {s} e f {from} {store′} {work′} {m} M = subst (λ (g : Try Next). Moved g from store′ work′ m) (on-ok f (walked-is R e)) M
 
-  pub step-stops : {k : ℕ} → r ≡ Refused k → (f : Walk → Try Next) (loc : Location) (i : ℕ) {from : ℕ} → Moved (goal >>= f) from store work (move-of r loc i)
+  pub step-stops : {k : Refusal} → r ≡ Refused k → (f : Walk → Try Next) (loc : Location) (i : ℕ) {from : ℕ} → Moved (goal >>= f) from store work (move-of r loc i)
   step-stops e f loc i = rw e (move-stopped (on-refuse f (refused-is R e)))
 
 module _ {goal : Try Next} {from : ℕ} {store : List ℤ} {work : List ℕ} {m : Move} (M : Moved goal from store work m) where
@@ -67,7 +69,7 @@ module _ {goal : Try Next} {from : ℕ} {store : List ℤ} {work : List ℕ} {m 
     forth = λ k q. let a = M .forth n e in let b = N .forth k q in omega arith;
   }
 
-  pub move-stops : {k : ℕ} → m ≡ Stopped k → (f : Next → Try Next) → Moved (goal >>= f) from store work m
+  pub move-stops : {k : Refusal} → m ≡ Stopped k → (f : Next → Try Next) → Moved (goal >>= f) from store work m
   move-stops e f = rw e (move-stopped (on-refuse f (stopped-is M e)))
 
 -- ---- the first point off the edges
@@ -173,8 +175,8 @@ module _ {rect : Rect64} {path store₀ : List ℤ} {work₀ : List ℕ} {s₀ :
       same-pass : one-pass (no-room (length store / 2)) rect (points-of path) (next-of store work s) ≡ one-pass (no-room (length store₀ / 2)) rect (points-of path) (next-of store work s)
       same-pass = ap (λ (L : ℕ). one-pass (no-room (L / 2)) rect (points-of path) (next-of store work s)) (I .going .store-kept)
 
-      pub passes-lost : (k : ℕ) → m ≡ Stopped k → Moved whole (s₀ .i) store′ work′ m
-      passes-lost k e = rw e (move-stopped (passes-stop _ rect (points-of path) (left - 1) (next-of store work s) (rw (points-length path) p) k (stopped-is M e ∙ same-pass) ∙ now-left))
+      pub passes-lost : (k : Refusal) → m ≡ Stopped k → Moved whole (s₀ .i) store′ work′ m
+      passes-lost k e = rw e (move-stopped (passes-stop _ rect (points-of path) (left - 1) (next-of store work s) (rw (points-length path) p) (number k) (stopped-is M e ∙ same-pass) ∙ now-left))
 
       pub passes-again : (t : NextState) → m ≡ To t → length store′ ≡ length store → length work′ ≡ length work → PassesGoing rect path store₀ work₀ s₀ store′ work′ t (left - 1)
       passes-again t e a z = record {

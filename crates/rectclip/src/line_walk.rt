@@ -9,6 +9,7 @@ ghost use Rattle.reference.specs.Lines.{first-off-edge, line-through, line-cros
 ghost use Rattle.rectclip.specs.Walking.{walk-of, Stepped};
 ghost use Rattle.rectclip.specs.Moving.{next-of, Moved};
 ghost use Rattle.rectclip.specs.Crossing.{move-of, step-of, one-pass, first-point, Crosses, PassFrom, Starts, Ready, Walkable};
+use crate::answer::Refusal;
 use crate::lists::point_at;
 use crate::next::Move;
 use crate::next::NextState;
@@ -82,7 +83,7 @@ fn line_through(
     let loc = nx.loc;
     let i = nx.i;
     let Search::Found(ip2, _) = get_intersection(rect, prev_pt, pt, prev) else {
-        return Move::Stopped(9);
+        return Move::Stopped(Refusal::CrossingLost);
     };
     let r = add(store, work, walk, ip2, true);
     let Step::Walked(w) = r else {
