@@ -17,3 +17,5 @@ pub mod Sheets
 pub mod Passing
 pub mod Crossing
 pub mod Opening
+pub mod Results
+pub mod Writing

@@ -4,6 +4,7 @@ mod corners;
 mod line_walk;
 mod lists;
 mod next;
+mod pieces;
 pub mod present;
 mod search;
 mod segment;
