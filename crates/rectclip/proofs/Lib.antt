@@ -1,6 +1,14 @@
--- `Reach`: coordinates within the limit are within reach.
+-- Laws that the functions' proofs cite.
+pub mod Memory
+pub mod Columns
+pub mod Coordinates
+pub mod Clearing
 pub mod Reach
 pub mod Segments
 pub mod Searches
 pub mod PathBounds
 pub mod Sheets
+pub mod Scans
+pub mod ScanSteps
+pub mod ScanPasses
+pub mod Polygons

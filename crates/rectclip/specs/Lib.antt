@@ -1,4 +1,6 @@
--- What the clippers' functions ask of their numbers, and what they answer.
+-- Words of the private functions' contracts, and the answers of the public ones.
+pub mod Memory
 pub mod Bounds
 pub mod Parted
+pub mod Scanned
 pub mod Answers

@@ -1,5 +1,8 @@
 // The rectangle clippers: RectClip64 for closed paths and RectClipLines64 for open ones, of rectclip.rs.
+// The public entries are total; what needs a bound is private.
 pub mod answer;
+mod lists;
+mod polygon;
 pub mod present;
 mod search;
 mod segment;
