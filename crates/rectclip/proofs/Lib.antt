@@ -1,6 +1,13 @@
 -- Laws that the functions' proofs cite.
 pub mod Reach
 pub mod Segments
+pub mod Searches
+pub mod PathBounds
+pub mod Sheets
+pub mod Scans
+pub mod ScanSteps
+pub mod ScanPasses
+pub mod Polygons
 pub mod Memory
 pub mod Columns
 pub mod Coordinates
@@ -11,11 +18,10 @@ pub mod Adding
 pub mod Turning
 pub mod Scanning
 pub mod Moving
-pub mod Searches
-pub mod PathBounds
-pub mod Sheets
 pub mod Passing
 pub mod Crossing
 pub mod Opening
 pub mod Results
 pub mod Writing
+pub mod Delivering
+pub mod Entering

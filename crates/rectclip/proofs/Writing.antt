@@ -57,11 +57,11 @@ nothing zero Q = refl
 nothing (suc n) [] = refl
 nothing (suc n) (q ∷ Q) = nothing n Q
 
-coordinates-length : (Q : List Point64) → length (coordinates-of Q) ≡ 2 * length Q
+pub coordinates-length : (Q : List Point64) → length (coordinates-of Q) ≡ 2 * length Q
 coordinates-length [] = refl
 coordinates-length (q ∷ Q) = ap (λ (n : ℕ). suc (suc n)) (coordinates-length Q) ∙ omega arith
 
-filled-length : {A : Type 0} (new old : List A) → length (filled new old) ≡ length new + (length old - length new)
+pub filled-length : {A : Type 0} (new old : List A) → length (filled new old) ≡ length new + (length old - length new)
 filled-length new old = length-append new (drop (length new) old) ∙ ap (λ (n : ℕ). length new + n) (length-drop (length new) old)
 
 pub copying-none : (store list : List ℤ) (from to at : ℕ) → from ≤ to → Copying store from to at list list from at

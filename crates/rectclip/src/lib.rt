@@ -2,10 +2,13 @@
 pub mod answer;
 mod corners;
 mod line_walk;
+pub mod lines;
 mod lists;
 mod next;
 mod pieces;
+mod polygon;
 pub mod present;
+pub mod refusals;
 mod search;
 mod segment;
 mod survey;

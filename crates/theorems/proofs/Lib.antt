@@ -49,4 +49,5 @@ pub mod Counted
 pub mod WalkEnters
 pub mod ClosedArea
 pub mod EntryMissed
+pub mod GeoExact
 pub mod Search
