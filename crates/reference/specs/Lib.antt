@@ -7,3 +7,5 @@ pub mod Clip
 pub mod Entry
 pub mod Demand
 pub mod Bounds
+pub mod Drawings
+pub mod Refusals
