@@ -3,3 +3,4 @@ pub mod Memory
 pub mod Columns
 pub mod Coordinates
 pub mod Clearing
+pub mod Reach
