@@ -1,0 +1,12 @@
+//! The Rust at hand: `RectClip64` and `RectClipLines64` of clipper2-rust, built from their unchanged text,
+//! and the answers that document 01 asks for, worked out with them.
+
+// core, rectclip: the text as it stands. counted: rectclip with calls to `tally`.
+include!(concat!(env!("OUT_DIR"), "/rust_at_hand.rs"));
+
+pub mod drawings;
+pub mod facts;
+pub mod judge;
+pub mod program;
+pub mod random;
+mod tally;
