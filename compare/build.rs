@@ -13,7 +13,13 @@ struct Change {
 }
 
 /// The changes that make counted.rs of rectclip.rs. Each only adds a call; none alters what is computed.
-const CHANGES: [Change; 6] = [
+const CHANGES: [Change; 7] = [
+    // A path is walked: once in each clipper.
+    Change {
+        text: "self.execute_internal(path);",
+        instead: "crate::tally::walk(); self.execute_internal(path);",
+        times: 2,
+    },
     // `add` stores a point: twice in each clipper.
     Change {
         text: "self.arena.push(op);",

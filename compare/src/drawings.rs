@@ -12,7 +12,8 @@
 //! - path: x, y, x, y and so on; empty where there are no points
 //! - answer: X and the refusal, or T and the turns; work, coordinate and length lists are long enough
 //! - paths: the returned paths, parted by bars; empty where there are none
-//! - outline: the walked outline, whatever W and A are, of a closed path that 1 to 7 let through; otherwise empty
+//! - outline: the walked outline, whatever W and A are, of a closed path that 1 to 7 let through and that is walked;
+//!   otherwise a minus
 //!
 //! A drawing is read from the first five fields, so a printed row may be kept in a file and read again.
 
@@ -40,21 +41,22 @@ impl Drawing {
         let letter = if self.kind == Kind::Closed { 'C' } else { 'L' };
         let given = format!("{letter};{};{};{};{}", commas(&self.rect), self.w, self.a, commas(&self.path));
         match self.answer() {
-            Answer::Refused(number @ (1..=7 | 9)) => format!("{given};X,{number};;"),
-            Answer::Refused(number) => format!("{given};X,{number};;{}", commas(&self.outline())),
+            Answer::Refused(number @ 1..=7) => format!("{given};X,{number};;-"),
+            Answer::Refused(number) => format!("{given};X,{number};;{}", self.outline()),
             Answer::Drawn(drawn) => {
                 let paths: Vec<String> = drawn.each_path().map(commas).collect();
-                format!("{given};T,{};{};{}", drawn.turns, paths.join("|"), commas(&self.outline()))
+                format!("{given};T,{};{};{}", drawn.turns, paths.join("|"), self.outline())
             }
         }
     }
 
-    /// The walked outline of a closed path within the limits; it does not depend on W and A.
-    fn outline(&self) -> Vec<i64> {
-        match self.kind {
+    /// The field of the outline, for a path within the limits; it does not depend on W and A.
+    fn outline(&self) -> String {
+        let outline = match self.kind {
             Kind::Closed => run(self.kind, self.rect, &self.path).outline(),
-            Kind::Open => Vec::new(),
-        }
+            Kind::Open => None,
+        };
+        outline.map_or("-".to_string(), |points| commas(&points))
     }
 
     /// Reads the first five fields of a row.

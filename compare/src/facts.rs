@@ -20,11 +20,11 @@ fn second_search_finds(_: Kind, _: Rect, _: &[i64], run: &Run) -> bool {
 
 fn areas_add_up(kind: Kind, _: Rect, _: &[i64], run: &Run) -> bool {
     let returned: i128 = run.paths.iter().map(|p| doubled_area(p)).sum();
-    kind == Kind::Open || run.stored.is_empty() || returned == doubled_area(&run.stored)
+    kind == Kind::Open || !run.walked || returned == doubled_area(&run.stored)
 }
 
 fn unwalked_is_copied(_: Kind, _: Rect, path: &[i64], run: &Run) -> bool {
-    !run.stored.is_empty() || run.paths.is_empty() || run.paths == [path]
+    run.walked || run.points() == 0 && (run.paths.is_empty() || run.paths == [path])
 }
 
 fn at_most_one_outside(_: Kind, [left, top, right, bottom]: Rect, _: &[i64], run: &Run) -> bool {
@@ -114,7 +114,7 @@ mod tests {
         assert_eq!(against(&altered(|run| run.paths.clear())), [area]);
         let backwards = |path: &[i64]| path.rchunks(2).flatten().copied().collect();
         assert_eq!(against(&altered(|run| run.paths[0] = backwards(&run.paths[0]))), [area]);
-        assert_eq!(against(&altered(|run| run.stored.clear())), [copied]);
+        assert_eq!(against(&altered(|run| run.walked = false)), [copied]);
         assert_eq!(against(&altered(|run| run.paths = vec![vec![12, 5, 12, 6]])), [area, outside, source]);
         assert_eq!(against(&altered(|run| run.start_sides = 9)), [short]);
     }

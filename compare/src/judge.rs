@@ -91,6 +91,8 @@ pub enum Answer {
 pub struct Run {
     /// The coordinates of each returned path.
     pub paths: Vec<Vec<i64>>,
+    /// Whether the path was walked, and not copied or passed over.
+    pub walked: bool,
     /// The coordinates of the points that `add` stored, in order.
     pub stored: Vec<i64>,
     /// Start sides that the walk pushed.
@@ -107,13 +109,10 @@ impl Run {
         self.stored.len() / 2
     }
 
-    /// The walked outline of a closed path; none where a second search finds nothing.
-    pub fn outline(self) -> Vec<i64> {
-        if self.lost_at.is_some() {
-            Vec::new()
-        } else {
-            self.stored
-        }
+    /// The walked outline of a closed path that is walked; without points where a second search finds nothing.
+    pub fn outline(self) -> Option<Vec<i64>> {
+        let outline = if self.lost_at.is_some() { Vec::new() } else { self.stored };
+        self.walked.then_some(outline)
     }
 
     /// The least W that the walk is content with.
@@ -253,6 +252,7 @@ fn both_copies(kind: Kind, rect: Rect, path: &[i64]) -> Run {
     assert!(counted == unchanged, "the counted copy answers {counted:?}, the unchanged one {unchanged:?}");
     Run {
         paths: unchanged.iter().map(|p| coordinates_of(p)).collect(),
+        walked: tally.walked,
         stored: coordinates_of(&tally.points),
         start_sides: tally.start_sides,
         lost_at: tally.lost_at,

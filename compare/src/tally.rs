@@ -8,6 +8,8 @@ const MOST_TURNS: u64 = 1 << 32;
 
 #[derive(Default)]
 pub struct Tally {
+    /// Whether the path was walked, and not copied or passed over.
+    pub walked: bool,
     /// The points that `add` stored, in order.
     pub points: Vec<Point64>,
     /// Entries pushed to `start_locs`.
@@ -25,6 +27,10 @@ thread_local! {
 /// The tally so far; the next one begins at nothing.
 pub fn take() -> Tally {
     NOW.take()
+}
+
+pub fn walk() {
+    NOW.with_borrow_mut(|now| now.walked = true);
 }
 
 pub fn point(pt: Point64) {

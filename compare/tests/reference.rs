@@ -62,9 +62,13 @@ fn drawing_12_is_the_limit() {
 #[test]
 fn the_outline_is_what_add_stored() {
     let walked = run(Closed, SQUARE, &[50, 50, 150, 50, 150, 80, 50, 80]);
-    assert_eq!(walked.stored, [50, 50, 100, 50, 100, 80, 50, 80]);
+    assert_eq!(walked.outline(), Some(vec![50, 50, 100, 50, 100, 80, 50, 80]));
     let copied = run(Closed, SQUARE, &[0, 0, 100, 0, 100, 100]);
-    assert!(copied.stored.is_empty());
+    assert_eq!(copied.outline(), None);
+    let missed = run(Closed, SQUARE, &[101, 0, 102, 0, 102, 100]);
+    assert_eq!(missed.outline(), None);
+    let walked_for_nothing = run(Closed, SQUARE, &[-10, 50, -10, 200, 50, 200, 0, 120]);
+    assert_eq!(walked_for_nothing.outline(), Some(vec![]));
 }
 
 #[test]
