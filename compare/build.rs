@@ -1,5 +1,5 @@
 //! Writes the Rust at hand below OUT_DIR: core.rs and rectclip.rs as their text stands, and counted.rs,
-//! the text of rectclip.rs with calls to `crate::tally` put in.
+//! the text of rectclip.rs with calls to `crate::tally` and `crate::reach` put in.
 //! The text is read from ../../shared/docs/src, or from the folder that CLIPPER2_RUST_SRC names.
 
 use std::path::{Path, PathBuf};
@@ -61,12 +61,13 @@ fn main() {
     let core = read_source(&folder, "core");
     let rectclip = read_source(&folder, "rectclip");
     fs::write(out.join("core.rs"), core).unwrap();
-    fs::write(out.join("counted.rs"), counted(&rectclip)).unwrap();
+    let (counted, lines) = marked(&counted(&rectclip));
+    fs::write(out.join("counted.rs"), counted).unwrap();
     fs::write(out.join("rectclip.rs"), rectclip).unwrap();
     // Both texts name their test files, which are not at hand.
     fs::write(out.join("core_tests.rs"), "").unwrap();
     fs::write(out.join("rectclip_tests.rs"), "").unwrap();
-    fs::write(out.join("rust_at_hand.rs"), root(&out)).unwrap();
+    fs::write(out.join("rust_at_hand.rs"), root(&out, &lines)).unwrap();
     println!("cargo:rerun-if-changed=build.rs");
     println!("cargo:rerun-if-env-changed=CLIPPER2_RUST_SRC");
 }
@@ -105,11 +106,33 @@ fn counted(rectclip: &str) -> String {
     })
 }
 
-/// The module root that lib.rs includes.
-fn root(out: &Path) -> String {
+/// The text with a call at the start of each block that a condition or a loop opens, and the lines of those blocks.
+fn marked(text: &str) -> (String, Vec<usize>) {
+    let mut lines = Vec::new();
+    let mark = |(i, line): (usize, &str)| {
+        if !opens_block(line.trim()) {
+            return format!("{line}\n");
+        }
+        lines.push(i + 1);
+        format!("{line} crate::reach::block({});\n", i + 1)
+    };
+    let text = text.lines().enumerate().map(mark).collect();
+    (text, lines)
+}
+
+/// Whether a line ends in the brace of a block that runs under a condition: a branch, a loop, an arm of a `match`.
+/// `if` on the right of `let` is not looked at.
+fn opens_block(line: &str) -> bool {
+    let begins = ["if ", "} else ", "while ", "loop ", "for ", "None =>", "Location::", "{"];
+    line.ends_with('{') && begins.iter().any(|b| line.starts_with(b))
+}
+
+/// The module root that lib.rs includes, and the lines of the marked blocks.
+fn root(out: &Path, lines: &[usize]) -> String {
     let module = |name: &str| {
         let file = out.join(format!("{name}.rs"));
         format!("#[allow(dead_code, clippy::all)]\n#[path = {file:?}]\npub mod {name};\n")
     };
-    ["core", "rectclip", "counted"].map(module).concat()
+    let modules = ["core", "rectclip", "counted"].map(module).concat();
+    format!("{modules}const MARKED_LINES: &[usize] = &{lines:?};\n")
 }

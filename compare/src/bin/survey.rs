@@ -8,6 +8,7 @@ use compare::drawings::{random_drawing, Drawing};
 use compare::facts::FACTS;
 use compare::judge::{in_limit, run, Kind, Run};
 use compare::random::Random;
+use compare::reach;
 use std::collections::BTreeMap;
 use std::env;
 use std::process::ExitCode;
@@ -87,6 +88,11 @@ fn report(seen: &Seen) {
     println!("runs by returned paths (4: or more): {:?}", seen.by_paths);
     println!("runs by turns (4: or more): {:?}", seen.by_turns);
     println!("most turns {}, most points {}", seen.most_turns, seen.most_points);
+    println!(
+        "{} blocks of rectclip.rs were run; not those that open at lines {:?}",
+        reach::lines(true).len(),
+        reach::lines(false)
+    );
     for (against, (name, _)) in seen.against.iter().zip(FACTS) {
         println!("{against} against: {name}");
     }
