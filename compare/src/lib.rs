@@ -7,6 +7,7 @@ include!(concat!(env!("OUT_DIR"), "/rust_at_hand.rs"));
 pub mod drawings;
 pub mod facts;
 pub mod judge;
+pub mod lists;
 pub mod program;
 pub mod random;
 pub mod reach;
