@@ -37,12 +37,13 @@ zeroed n c k s w = record { answer = refused n; lists = record { coordinates = r
 abbrev square : Rect64
 square = R (pos 0) (pos 0) (pos 100) (pos 100)
 
--- drawing 1; and a path that takes a turn
+-- drawing 1; and a path that dips twice below the top edge, which takes one turn to split in two
 abbrev shelf : List ℤ
 shelf = pos 50 ∷ pos 50 ∷ pos 150 ∷ pos 50 ∷ pos 150 ∷ pos 80 ∷ pos 50 ∷ pos 80 ∷ []
 
-abbrev folded : List ℤ
-folded = pos 3 ∷ negsuc 3 ∷ negsuc 7 ∷ negsuc 7 ∷ negsuc 0 ∷ negsuc 3 ∷ pos 8 ∷ pos 7 ∷ []
+abbrev two-dips : List ℤ
+two-dips =
+    pos 2 ∷ negsuc 1 ∷ pos 2 ∷ pos 5 ∷ pos 4 ∷ pos 5 ∷ pos 4 ∷ negsuc 1 ∷ pos 6 ∷ negsuc 1 ∷ pos 6 ∷ pos 5 ∷ pos 8 ∷ pos 5 ∷ pos 8 ∷ negsuc 1 ∷ pos 9 ∷ negsuc 2 ∷ pos 1 ∷ negsuc 2 ∷ []
 
 abbrev far : ℤ
 far = pos 33554433
@@ -66,6 +67,20 @@ rows =
       record {
         answer = drawn 1 4 0;
         lists = record { coordinates = pos 50 ∷ pos 80 ∷ pos 50 ∷ pos 50 ∷ pos 100 ∷ pos 50 ∷ pos 100 ∷ pos 80 ∷ pos 7 ∷ []; lengths = 4 ∷ 7 ∷ []; store = replicate 9 (pos 0); work = replicate 80 0 };
+      },
+    ) ∷
+    -- no turn allowed where one is needed; and the result with it
+    (clip-closed 0 (R (pos 0) (pos 0) (pos 10) (pos 10)) two-dips (lent 16 2 16 144), zeroed 10 16 2 16 144) ∷ (
+      clip-closed 1 (R (pos 0) (pos 0) (pos 10) (pos 10)) two-dips (lent 16 2 16 160),
+      record {
+        answer = drawn 2 8 1;
+        lists = record {
+          coordinates =
+              pos 2 ∷ pos 0 ∷ pos 2 ∷ pos 5 ∷ pos 4 ∷ pos 5 ∷ pos 4 ∷ pos 0 ∷ pos 6 ∷ pos 0 ∷ pos 6 ∷ pos 5 ∷ pos 8 ∷ pos 5 ∷ pos 8 ∷ pos 0 ∷ [];
+          lengths = 4 ∷ 4 ∷ [];
+          store = replicate 16 (pos 0);
+          work = replicate 160 0;
+        };
       },
     ) ∷
     -- nothing is drawn under an empty rectangle, and store and work are zero
