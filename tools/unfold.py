@@ -7,7 +7,7 @@ import re
 import sys
 
 IEEE = 'ofInt sub mul div neg toSigned eq le'.split()
-SKIP = {'Lib', 'Demand', 'Bounds', 'Found', 'Drawings', 'Refusals'}
+SKIP = {'Lib', 'Found', 'Drawings', 'Refusals', 'Examples'}
 
 
 def lists(crate):

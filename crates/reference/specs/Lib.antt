@@ -5,7 +5,5 @@ pub mod Arena
 pub mod Tidy
 pub mod Clip
 pub mod Entry
-pub mod Demand
-pub mod Bounds
 pub mod Drawings
 pub mod Refusals

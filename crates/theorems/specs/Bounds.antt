@@ -1,4 +1,5 @@
--- Loops of the Rust that the definitions bound by a number of passes: that the number is enough. Statements only; proofs: Ends, Corners, Passes, Drops, Scans (all twelve).
+-- Loops of the Rust that the definitions bound by a number of passes: that the number is enough. Statements only; proofs: Ends, Corners,
+-- Passes, Straightens, Drops, Scans (all twelve). That the nodes are a ring wherever a call goes round them is the subject of LoopsEnd.
 use mathlib.Core.Path.{_≡_}
 use mathlib.Core.Bool.{Bool, true, false}
 use mathlib.Core.List.{List, [], _∷_}

@@ -13,13 +13,13 @@ use Rattle.plane.specs.declared.point.Point64.{Point64}
 use Rattle.plane.specs.declared.rect.Rect64.{Rect64}
 use Rattle.plane.specs.declared.location.Location.{Location}
 use Rattle.plane.specs.declared.location.Location.the-variants.{Left, Top, Right, Bottom, Inside}
-use Rattle.plane.specs.Basics.{if_then_else_, Try, refuse, ok}
+use Rattle.plane.specs.Basics.{if_then_else_, none, Try, refuse, ok}
 use Rattle.plane.specs.Locations.{same-location}
 use Rattle.plane.specs.Points.{pt-at, points-of}
 use Rattle.plane.specs.Rectangle.{as-path, is-empty, intersects, contains-rect, get-bounds-path}
 use Rattle.reference.specs.Walk.{walked-outline}
 use Rattle.reference.specs.Clip.{execute}
 use Rattle.reference.specs.Lines.{execute-lines}
 use Rattle.plane.specs.Limit.{all-in-limit, rect-in-limit}
 
 -- ---- signed area, doubled: the sum over neighbours, last to first included, of x × next y − next x × y
@@ -133,6 +133,11 @@ pub record Demand3 (full : ℕ → Bool) (A : ℕ) (r : Rect64) (coords : List �
   pub closed-area : (paths : List (List Point64)) (turns : ℕ) → execute full A r (points-of coords) ≡ ok (paths, turns) → AreaKept r (points-of coords) paths
   pub open-sourced : (paths : List (List Point64)) → execute-lines full r (points-of coords) ≡ ok paths → Sourced false r (points-of coords) paths
 
--- to be proved
+-- A store is bounded where a list of 4,294,967,295 entries, the number `none`, has no room for one more. Every call's is, since W is at
+-- most 65,536. Without the bound the statement fails: a node with that number would be taken for no node.
+abbrev pub Bounded : (ℕ → Bool) → Type 0
+Bounded full = (n : ℕ) → full n ≡ false → n < none
+
+-- demand 3 of every bounded store, every allowance, every rectangle and path within the coordinate limit; proved in proofs/ClosedArea.antt
 abbrev pub Demand3-holds : Type 0
-Demand3-holds = (full : ℕ → Bool) (A : ℕ) (r : Rect64) (coords : List ℤ) → T (rect-in-limit r) → T (all-in-limit coords) → Demand3 full A r coords
+Demand3-holds = (full : ℕ → Bool) (A : ℕ) (r : Rect64) (coords : List ℤ) → Bounded full → T (rect-in-limit r) → T (all-in-limit coords) → Demand3 full A r coords
