@@ -4,3 +4,7 @@ pub mod Columns
 pub mod Coordinates
 pub mod Clearing
 pub mod Reach
+pub mod Segments
+pub mod Searches
+pub mod PathBounds
+pub mod Sheets

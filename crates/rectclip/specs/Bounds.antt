@@ -1,7 +1,20 @@
 -- What the functions ask of their points and lists: coordinates within the limit, or one unit past it, as a crossing's may be.
-use Prim.Native.Nat.{_≤_}
-use lib.IntN.{natAbs}
+use mathlib.Core.List.{List}
+use Prim.Native.Nat.{_%_, _≤_}
+use lib.ListN.{length}
+use lib.IntN.{ℤ, natAbs}
+use Rattle.plane.specs.Points.{points-of}
+use mathlib.Core.Path.{_≡_}
+use mathlib.Core.Bool.{false}
+use Rattle.plane.specs.Limit.{Limited}
+use Rattle.plane.specs.Rectangle.{is-empty, get-bounds-path}
+use Rattle.reference.specs.Demand.{AtMostOneOutside}
+use Rattle.theorems.proofs.Demand.{LimitedRect}
+use Rattle.plane.specs.declared.crossing.Search.{Search}
+use Rattle.plane.specs.declared.crossing.Search.the-variants.{Found}
+use Rattle.plane.specs.declared.location.Location.{Location}
 use Rattle.plane.specs.declared.point.Point64.{Point64}
+use Rattle.plane.specs.declared.rect.Rect64.{Rect64}
 
 -- one unit past the limit: where a crossing is cut to whole numbers it may lie one unit outside the rectangle
 pub record Reached (p : Point64) : Type 0 where
@@ -13,3 +26,19 @@ pub record Turn (p q r : Point64) : Type 0 where
   pub first : Reached p
   pub second : Reached q
   pub third : Reached r
+
+-- what a search for a crossing asks: rectangle and segment are within the limit
+pub record SearchLimits (r : Rect64) (p p2 : Point64) : Type 0 where
+  pub rect : LimitedRect r
+  pub start : Limited p
+  pub end : Limited p2
+
+-- a point that a search found, of a rectangle that is not empty, is at most one unit outside the rectangle
+pub record InReach (r : Rect64) (s : Search) : Type 0 where
+  pub outside : is-empty r ≡ false → (q : Point64) (loc : Location) → s ≡ Found q loc → AtMostOneOutside r q
+  pub reached : is-empty r ≡ false → (q : Point64) (loc : Location) → s ≡ Found q loc → Reached q
+
+-- coordinates in pairs, and their bounds
+pub record Surveyed (coords : List ℤ) (bounds : Rect64) : Type 0 where
+  pub even : length coords % 2 ≡ 0
+  pub bound : bounds ≡ get-bounds-path (points-of coords)

@@ -1,3 +1,5 @@
 -- Words of the private functions' contracts, and the answers of the public ones.
 pub mod Memory
 pub mod Bounds
+pub mod Parted
+pub mod Answers

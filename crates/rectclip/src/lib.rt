@@ -1,4 +1,8 @@
 // The rectangle clippers: RectClip64 for closed paths and RectClipLines64 for open ones, of rectclip.rs.
 // The public entries are total; what needs a bound is private.
 mod lists;
+pub mod answer;
+pub mod present;
+mod search;
 mod segment;
+mod survey;

@@ -4,11 +4,6 @@ use Rattle.plane.specs.Signs.{is-clockwise-dir}
 use borrow.Author.Needs.{needs}
 use Rattle.rectclip.proofs.segment.is_clockwise_dir.Statement.{statement}
 use Rattle.rectclip.proofs.segment.is_clockwise_dir.Tie as tie
-use Rattle.rectclip.proofs.segment.is_clockwise_dir.Reads as reads
-use Rattle.rectclip.proofs.segment.is_clockwise_dir.Lts as lts
-use Rattle.plane.proofs.location.Location.are_opposites.Reads as are-opposites-reads
-use Rattle.plane.proofs.location.Location.heading_clockwise.Reads as heading-clockwise-reads
-use Rattle.rectclip.proofs.segment.cross_product_is_negative.Reads as cross-product-is-negative-reads
 
 are-opposites-requires : tie.Need-are-opposites-requires
 are-opposites-requires c κs = search needs
