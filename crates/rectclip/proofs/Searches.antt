@@ -13,7 +13,7 @@ use Rattle.plane.specs.declared.location.Location.{Location}
 use Rattle.plane.specs.declared.location.Location.the-variants.{Left, Top, Right, Bottom, Inside}
 use Rattle.plane.specs.declared.point.Point64.{Point64}
 use Rattle.plane.specs.declared.rect.Rect64.{Rect64}
-use Rattle.reference.specs.Demand.{AtMostOneOutside}
+use Rattle.theorems.specs.Demand.{AtMostOneOutside}
 use Rattle.theorems.proofs.Demand.{LimitedRect}
 use Rattle.theorems.proofs.Search.{found-outside, outside-across, outside-down}
 use Rattle.rectclip.specs.Bounds.{Reached, SearchLimits, InReach}

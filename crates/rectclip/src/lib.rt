@@ -1,7 +1,7 @@
 // The rectangle clippers: RectClip64 for closed paths and RectClipLines64 for open ones, of rectclip.rs.
 // The public entries are total; what needs a bound is private.
-mod lists;
 pub mod answer;
+mod lists;
 pub mod present;
 mod search;
 mod segment;

@@ -70,5 +70,4 @@ pub mod FewPoints
 pub mod FewLines
 pub mod FewEntries
 pub mod ListsFit
-pub mod EntryMissed
 pub mod Search

@@ -16,7 +16,7 @@ use Rattle.plane.specs.declared.crossing.Search.the-variants.{Found}
 use Rattle.plane.specs.Limit.{Limited}
 use Rattle.plane.specs.Rectangle.{is-empty}
 use Rattle.plane.specs.Intersection.{get-intersection}
-use Rattle.reference.specs.Demand.{AtMostOneOutside, onward, corner-point, crossing}
+use Rattle.theorems.specs.Demand.{AtMostOneOutside, onward, corner-point, crossing}
 use Rattle.theorems.proofs.Demand.{LimitedRect, search-hits, not-empty-order, outside}
 use Rattle.theorems.proofs.Sources.{Hit, at-corner, at-crossing}
 
