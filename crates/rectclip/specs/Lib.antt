@@ -2,4 +2,7 @@
 pub mod Memory
 pub mod Bounds
 pub mod Parted
+pub mod Memory
+pub mod Walking
+pub mod Moving
 pub mod Answers

@@ -1,0 +1,54 @@
+-- What the coordinate limit says of each point of a path and of each corner of the rectangle. Assumes nothing.
+use mathlib.Core.Path.{_≡_, refl, sym, _∙_, ap}
+use mathlib.Core.Bool.{Bool, true, false, _&&_}
+use mathlib.Core.List.{List, [], _∷_}
+use Prim.Native.Nat.{ℕ, zero, suc, _<_, _≤_}
+use native.Mathlib.Omega.{arith}
+use borrow.Author.Tests.{leb-true}
+use lib.IntN.{ℤ, pos, natAbs}
+use Rattle.rounding.specs.Coordinate.{Limit}
+use Rattle.plane.specs.declared.point.Point64.{Point64}
+use Rattle.plane.specs.declared.rect.Rect64.{Rect64}
+use Rattle.plane.specs.declared.location.Location.{Location}
+use Rattle.plane.specs.declared.location.Location.the-variants.{Left, Top, Right, Bottom, Inside}
+use Rattle.plane.specs.Limit.{in-limit, all-in-limit, rect-in-limit, Limited}
+use Rattle.plane.specs.Points.{pt-at, points-of}
+use Rattle.plane.specs.Rectangle.{corner}
+use Rattle.rectclip.specs.Bounds.{Reached}
+
+both : (a b : Bool) → (a && b) ≡ true → (a ≡ true) × (b ≡ true)
+both true b e = (refl, e)
+both false b e = (e, absurd (let z : _≡_ {A = ℕ} 0 1 = cc in omega arith))
+
+within : (z : ℤ) → in-limit z ≡ true → natAbs z ≤ 33554432
+within z e = leb-true _ _ e
+
+pub path-limited : (path : List ℤ) → all-in-limit path ≡ true → (i : ℕ) → Limited (pt-at (points-of path) i)
+path-limited [] e i = record { across = omega arith; down = omega arith }
+path-limited (x ∷ []) e i = record { across = omega arith; down = omega arith }
+path-limited (x ∷ y ∷ path) e zero = let (a, b) = both (in-limit x) _ e in record { across = within x a; down = within y (both (in-limit y) _ b .0) }
+path-limited (x ∷ y ∷ path) e (suc i) = path-limited path (both (in-limit y) _ (both (in-limit x) _ e .1) .1) i
+
+-- each coordinate of the rectangle
+pub record Framed (r : Rect64) : Type 0 where
+  pub left : natAbs (r .left) ≤ 33554432
+  pub top : natAbs (r .top) ≤ 33554432
+  pub right : natAbs (r .right) ≤ 33554432
+  pub bottom : natAbs (r .bottom) ≤ 33554432
+
+pub framed : (r : Rect64) → rect-in-limit r ≡ true → Framed r
+framed r e =
+    let (e3, d) = both (in-limit (r .left) && in-limit (r .top) && in-limit (r .right)) _ e in
+    let (e2, c) = both (in-limit (r .left) && in-limit (r .top)) _ e3 in
+    let (a, b) = both (in-limit (r .left)) _ e2 in
+    record { left = within (r .left) a; top = within (r .top) b; right = within (r .right) c; bottom = within (r .bottom) d }
+
+pub close-of : {p : Point64} → Limited p → Reached p
+close-of L = record { across = omega (arith, L .across); down = omega (arith, L .down) }
+
+pub close-corner : (r : Rect64) (loc : Location) → rect-in-limit r ≡ true → Reached (corner r loc)
+close-corner r Left e = let F = framed r e in record { across = omega (arith, F .left); down = omega (arith, F .top) }
+close-corner r Top e = let F = framed r e in record { across = omega (arith, F .right); down = omega (arith, F .top) }
+close-corner r Right e = let F = framed r e in record { across = omega (arith, F .right); down = omega (arith, F .bottom) }
+close-corner r Bottom e = let F = framed r e in record { across = omega (arith, F .left); down = omega (arith, F .bottom) }
+close-corner r Inside e = let F = framed r e in record { across = omega (arith, F .left); down = omega (arith, F .top) }

@@ -1,0 +1,88 @@
+-- `push_start_locs` meets its contract: each turn makes a side a start side, until the walk has come to `loc`.
+use mathlib.Core.Path.{refl, sym, _∙_}
+use Rattle.rectclip.proofs.Turning.{RoundGoing, Round, corner-round, side-round, sides-any, round-start, round-lost, round-met, round-again, round-done}
+use native.Mathlib.Omega.{arith}
+use Prim.Native.Nat.{_/_}
+use Rattle.plane.specs.Rectangle.{no-bounds}
+use Rattle.reference.specs.Walk.{no-room, push-start-locs}
+use borrow.Author.Needs.{needs}
+use Rattle.rectclip.proofs.corners.push_start_locs.Statement.{statement}
+use Rattle.rectclip.proofs.corners.push_start_locs.Tie as tie
+use Rattle.rectclip.proofs.corners.push_start_locs.Reads as reads
+use Rattle.rectclip.proofs.corners.push_start_locs.Lts as lts
+use Rattle.plane.proofs.location.Location.equals.Reads as equals-reads
+use Rattle.plane.proofs.location.Location.get_adjacent_location.Reads as get-adjacent-location-reads
+use Rattle.rectclip.proofs.walk.push_start_loc.Reads as push-start-loc-reads
+
+abbrev Inv-loop : tie.InvT-loop
+Inv-loop store work₀ loc is-clockwise w₀ p₀ left₀ work w p left = RoundGoing (λ L left w p. push-start-locs (no-room (L / 2)) no-bounds left w p loc is-clockwise) store work₀ w₀ p₀ store work w p left
+
+abbrev μ-loop : tie.MeasureT-loop
+μ-loop store work₀ loc is-clockwise w₀ p₀ left₀ work w p left = left
+
+loop-holds : tie.Need-loop-holds Inv-loop μ-loop
+loop-holds c = round-start _ _ (let s : tie.Start Inv-loop μ-loop = search in s .pre)
+
+push-start-loc-requires : tie.Need-push-start-loc-requires Inv-loop μ-loop
+push-start-loc-requires c κs = c .before .before .loop .inv .going .fits
+
+enum-known-r : tie.Need-enum-known-r Inv-loop μ-loop
+enum-known-r c = search needs
+
+enum-told : tie.Need-enum-told Inv-loop μ-loop
+enum-told c = search needs
+
+same-length : tie.Need-same-length Inv-loop μ-loop
+same-length c = c .before .before .before .before .push-start-loc .kept .1 .0 ∙ c .before .before .before .before .before .before .before .loop .inv .going .work-kept
+
+returns : tie.Need-returns Inv-loop μ-loop
+returns c = λ rect. rw (sides-any _ rect no-bounds) (round-lost (side-round no-bounds _ _) (c .before .before .before .before .before .before .before .loop .inv) (c .before .before .before .before .before .before .loop-test .taken) (c .before .before .before .before .push-start-loc .ensures) _ (c .enum-told .given .1))
+
+get-adjacent-location-requires : tie.Need-get-adjacent-location-requires Inv-loop μ-loop
+get-adjacent-location-requires c κs = search needs
+
+equals-requires : tie.Need-equals-requires Inv-loop μ-loop
+equals-requires c κs = search needs
+
+same-length-2 : tie.Need-same-length-2 Inv-loop μ-loop
+same-length-2 c = c .before .before .before .before .before .before .before .before .push-start-loc .kept .1 .0 ∙ c .before .before .before .before .before .before .before .before .before .before .before .loop .inv .going .work-kept
+
+returns-2 : tie.Need-returns-2 Inv-loop μ-loop
+returns-2 c = λ rect. rw (sides-any _ rect no-bounds) (round-met (side-round no-bounds _ _) (c .before .before .before .before .before .before .before .before .before .before .before .loop .inv) (c .before .before .before .before .before .before .before .before .before .before .loop-test .taken) (c .before .before .before .before .before .before .before .before .push-start-loc .ensures) _ (c .before .before .before .before .r .given .1) (c .before .before .get-adjacent-location .ensures) (c .before .equals .ensures) (c .if1 .taken))
+
+sub-left : tie.Need-sub-left Inv-loop μ-loop
+sub-left c = search needs
+
+loop-less : tie.Need-loop-less Inv-loop μ-loop
+loop-less c = search needs
+
+loop-again : tie.Need-loop-again Inv-loop μ-loop
+loop-again c = round-again (side-round no-bounds _ _) (c .before .before .before .before .before .before .before .before .before .before .before .loop .inv) (c .before .before .before .before .before .before .before .before .before .before .loop-test .taken) (c .before .before .before .before .before .before .before .before .push-start-loc .ensures) _ (c .before .before .before .before .r .given .1) (c .before .before .get-adjacent-location .ensures) (c .before .equals .ensures) (c .if1 .left) (refl) (c .before .before .before .before .before .before .before .before .push-start-loc .kept .1 .0)
+
+same-length-3 : tie.Need-same-length-3 Inv-loop μ-loop
+same-length-3 c = c .before .loop .inv .going .work-kept
+
+returns-3 : tie.Need-returns-3 Inv-loop μ-loop
+returns-3 c = λ rect. rw (sides-any _ rect no-bounds) (round-done (side-round no-bounds _ _) (c .before .loop .inv) (omega (arith, c .loop-test .left)))
+
+pub push-start-locs-spec : {M : Type 1} → statement M
+push-start-locs-spec =
+    tie.close
+    (tie.spec
+    Inv-loop
+    μ-loop
+    loop-holds
+    push-start-loc-requires
+    enum-known-r
+    enum-told
+    same-length
+    returns
+    get-adjacent-location-requires
+    equals-requires
+    same-length-2
+    returns-2
+    sub-left
+    loop-less
+    loop-again
+    same-length-3
+    returns-3)

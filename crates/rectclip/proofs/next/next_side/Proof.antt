@@ -1,0 +1,56 @@
+-- `next_side` meets its contract: the three tests, in order.
+use Rattle.rectclip.proofs.Scanning.{side-across, side-lower, side-upper, side-inside}
+use borrow.Author.Needs.{needs}
+use Rattle.rectclip.proofs.next.next_side.Statement.{statement}
+use Rattle.rectclip.proofs.next.next_side.Tie as tie
+use Rattle.rectclip.proofs.next.next_side.Reads as reads
+use Rattle.rectclip.proofs.next.next_side.Lts as lts
+use Rattle.plane.proofs.location.Location.lower.Reads as lower-reads
+use Rattle.plane.proofs.location.Location.opposite.Reads as opposite-reads
+use Rattle.plane.proofs.location.Location.upper.Reads as upper-reads
+use Rattle.plane.proofs.rect.Rect64.beyond_or_on.Reads as beyond-or-on-reads
+
+opposite-requires : tie.Need-opposite-requires
+opposite-requires c κs = search needs
+
+beyond-or-on-requires : tie.Need-beyond-or-on-requires
+beyond-or-on-requires c κs = search needs
+
+returns : tie.Need-returns
+returns c = let s : tie.Start = search in side-across (s .args .rect) (s .args .s) (s .args .p) (c .before .before .opposite .ensures) (c .before .beyond-or-on .ensures) (c .if1 .taken)
+
+lower-requires : tie.Need-lower-requires
+lower-requires c κs = search needs
+
+beyond-or-on-requires-2 : tie.Need-beyond-or-on-requires-2
+beyond-or-on-requires-2 c κs = search needs
+
+returns-2 : tie.Need-returns-2
+returns-2 c = let s : tie.Start = search in side-lower (s .args .rect) (s .args .s) (s .args .p) (c .before .before .before .before .before .opposite .ensures) (c .before .before .before .before .beyond-or-on .ensures) (c .before .before .before .if1 .left) (c .before .before .lower .ensures) (c .before .beyond-or-on2 .ensures) (c .if2 .taken)
+
+upper-requires : tie.Need-upper-requires
+upper-requires c κs = search needs
+
+beyond-or-on-requires-3 : tie.Need-beyond-or-on-requires-3
+beyond-or-on-requires-3 c κs = search needs
+
+returns-3 : tie.Need-returns-3
+returns-3 c = let s : tie.Start = search in side-upper (s .args .rect) (s .args .s) (s .args .p) (c .before .before .before .before .before .before .before .before .opposite .ensures) (c .before .before .before .before .before .before .before .beyond-or-on .ensures) (c .before .before .before .before .before .before .if1 .left) (c .before .before .before .before .before .lower .ensures) (c .before .before .before .before .beyond-or-on2 .ensures) (c .before .before .before .if2 .left) (c .before .before .upper .ensures) (c .before .beyond-or-on3 .ensures) (c .if3 .taken)
+
+returns-4 : tie.Need-returns-4
+returns-4 c = let s : tie.Start = search in side-inside (s .args .rect) (s .args .s) (s .args .p) (c .before .before .before .before .before .before .before .before .opposite .ensures) (c .before .before .before .before .before .before .before .beyond-or-on .ensures) (c .before .before .before .before .before .before .if1 .left) (c .before .before .before .before .before .lower .ensures) (c .before .before .before .before .beyond-or-on2 .ensures) (c .before .before .before .if2 .left) (c .before .before .upper .ensures) (c .before .beyond-or-on3 .ensures) (c .if3 .left)
+
+pub next-side-spec : {M : Type 1} → statement M
+next-side-spec =
+    tie.close
+    (tie.spec
+    opposite-requires
+    beyond-or-on-requires
+    returns
+    lower-requires
+    beyond-or-on-requires-2
+    returns-2
+    upper-requires
+    beyond-or-on-requires-3
+    returns-3
+    returns-4)
