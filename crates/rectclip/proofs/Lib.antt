@@ -5,8 +5,6 @@ pub mod Memory
 pub mod Columns
 pub mod Coordinates
 pub mod Clearing
-pub mod Reach
-pub mod Segments
 pub mod Limits
 pub mod Walking
 pub mod Adding

@@ -2,7 +2,6 @@
 pub mod Memory
 pub mod Bounds
 pub mod Parted
-pub mod Memory
 pub mod Walking
 pub mod Moving
 pub mod Answers
