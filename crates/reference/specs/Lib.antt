@@ -1,4 +1,5 @@
 -- The definition of both clippers, in the order to read, after plane's.
+pub mod Counts
 pub mod Walk
 pub mod Lines
 pub mod Arena
