@@ -4,6 +4,7 @@ pub mod answer;
 mod corners;
 mod lists;
 mod next;
+mod polygon;
 pub mod present;
 mod search;
 mod segment;
