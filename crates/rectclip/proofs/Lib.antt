@@ -18,3 +18,6 @@ pub mod Scans
 pub mod ScanSteps
 pub mod ScanPasses
 pub mod Polygons
+pub mod Passing
+pub mod Crossing
+pub mod Opening

@@ -6,3 +6,4 @@ pub mod Walking
 pub mod Moving
 pub mod Scanned
 pub mod Answers
+pub mod Crossing
