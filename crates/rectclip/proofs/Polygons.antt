@@ -1,5 +1,5 @@
 -- `point_in_polygon` way by way, and the turns of `path1_contains_path2`. Assumes nothing.
-use mathlib.Core.Path.{_≡_, refl, sym, ap, _∙_, subst}
+use mathlib.Core.Path.{_≡_, refl, sym, ap, _∙_}
 use mathlib.Core.Bool.{Bool, true, false, _||_}
 use mathlib.Core.List.{List, [], _∷_}
 use Prim.Native.Nat.{ℕ, zero, suc, _+_, _-_, _*_, _/_, _%_, _≤_, _<_}
@@ -17,7 +17,7 @@ use Rattle.plane.specs.Points.{origin, points-of, pt-at}
 use Rattle.plane.specs.Polygon.{first-off, scan-loop, point-in-polygon, counted, contains-from}
 use Rattle.plane.specs.Polygon as polygon
 use Rattle.plane.specs.declared.location.PointInPolygonResult.{PointInPolygonResult}
-use Rattle.plane.specs.declared.location.PointInPolygonResult.the-variants.{IsOn, IsInside, IsOutside}
+use Rattle.plane.specs.declared.location.PointInPolygonResult.the-variants.{IsOutside}
 use Rattle.plane.specs.declared.point.Point64.{Point64}
 use Rattle.rectclip.proofs.Coordinates.{points-length}
 

@@ -1,10 +1,10 @@
 -- A pass, the end and the loop of `point_in_polygon`, way by way. Assumes nothing.
 use mathlib.Core.Path.{_≡_, refl, sym, ap, _∙_, subst}
-use mathlib.Core.Bool.{Bool, true, false, not, _&&_, _||_, Bool·beq}
+use mathlib.Core.Bool.{Bool, true, false, _&&_, _||_, Bool·beq}
 use mathlib.Core.List.{List}
-use Prim.Native.Nat.{ℕ, zero, suc, _+_, _-_, _/_, _≤_, _<_}
+use Prim.Native.Nat.{ℕ, suc, _-_, _/_, _<_}
 use native.Mathlib.Omega.{arith}
-use lib.Dec.{eqb, ltb, leb}
+use lib.Dec.{eqb, leb}
 use lib.IntN.{ℤ, pos}
 use lib.ListN.{length}
 use lib.Signed.{ltZ}
@@ -15,9 +15,9 @@ use Rattle.plane.specs.Signs.{cross-product-sign}
 use Rattle.plane.specs.Polygon.{skipped, before-idx, at-vertex, scan-pass, scan-answer, scan-loop}
 use Rattle.plane.specs.Polygon as polygon
 use Rattle.plane.specs.declared.location.PointInPolygonResult.{PointInPolygonResult}
-use Rattle.plane.specs.declared.location.PointInPolygonResult.the-variants.{IsOn, IsInside, IsOutside}
+use Rattle.plane.specs.declared.location.PointInPolygonResult.the-variants.{IsOn}
 use Rattle.plane.specs.declared.point.Point64.{Point64}
-use Rattle.rectclip.specs.Scanned.{scan-of, step-of, answer-of}
+use Rattle.rectclip.specs.Scanned.{scan-of, answer-of}
 use Rattle.rectclip.specs.declared.polygon.Scan.{Scan}
 use Rattle.rectclip.proofs.Coordinates.{points-length}
 

@@ -15,7 +15,7 @@ use Rattle.plane.specs.Signs.{cross-product-sign}
 use Rattle.plane.specs.Polygon.{before-idx, at-vertex}
 use Rattle.plane.specs.Polygon as polygon
 use Rattle.plane.specs.declared.point.Point64.{Point64}
-use Rattle.rectclip.specs.Scanned.{scan-of, step-of, passing-of, line-of, passed-of, level-of, InScan, Scanning}
+use Rattle.rectclip.specs.Scanned.{step-of, passing-of, line-of, passed-of, level-of, Scanning}
 use Rattle.rectclip.specs.declared.polygon.Scan.{Scan}
 use Rattle.rectclip.specs.declared.polygon.ScanStep.{ScanStep}
 use Rattle.rectclip.specs.declared.polygon.ScanStep.the-variants.{OnEdge, Stop, Again}

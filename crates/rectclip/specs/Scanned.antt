@@ -1,5 +1,4 @@
 -- The scan of `point_in_polygon` as the code has it: its variables and steps, and parts of a pass in functions of their own.
-use mathlib.Core.Path.{_≡_}
 use mathlib.Core.Bool.{Bool, not, _&&_, _||_, Bool·beq}
 use mathlib.Core.List.{List}
 use Prim.Native.Nat.{ℕ, _+_, _-_, _/_, _≤_, _<_}

@@ -1,5 +1,4 @@
 // Whether a point is in a polygon: `point_in_polygon` of core.rs, and `path1_contains_path2`.
-ghost use mathlib.Core.Bool.{Bool·beq};
 ghost use mathlib.Core.Path.{_≡_};
 ghost use Prim.Native.Nat.{_*_, _+_, _-_, _/_, _≤_, _<_};
 ghost use lib.Dec.{eqb};
@@ -7,7 +6,7 @@ ghost use lib.IntN.{pos, natAbs};
 ghost use lib.ListN.{length};
 ghost use lib.Signed.{ltZ};
 ghost use Rattle.plane.specs.Basics.{if_then_else_};
-ghost use Rattle.plane.specs.Points.{points-of, pt-at};
+ghost use Rattle.plane.specs.Points.{points-of};
 ghost use Rattle.plane.specs.Polygon.{first-off, skipped, at-vertex, scan-pass, scan-answer, scan-loop, point-in-polygon, counted, contains-from, path1-contains-path2};
 ghost use Rattle.rectclip.specs.Bounds.{Turn, Vertices, BothPaths};
 ghost use Rattle.rectclip.specs.Scanned.{scan-of, step-of, passing-of, line-of, passed-of, level-of, AtVertex, InPass, Scanning, answer-of};

@@ -1,16 +1,13 @@
 -- A segment cuts an edge, in depths, exactly where the two have an exact crossing as document 01 defines it. Two arguments, upward and downward across the edge's line, serve the four sides. Assumes nothing.
-use mathlib.Core.Path.{_≡_, refl, sym, ap, _∙_, subst}
+use mathlib.Core.Path.{_≡_, refl}
 use mathlib.Core.List.{List, [], _∷_}
 use mathlib.Core.Logic.{_⊎_, inl, inr, ⊎-elim}
-use Prim.Native.Nat.{ℕ, _<_, _≤_}
-use native.Mathlib.Omega.{arith}
+use Prim.Native.Nat.{_<_, _≤_}
 use lib.IntN.{ℤ, pos, natAbs, _+ℤ_, _-ℤ_, _*ℤ_}
 use lib.Signed.{_≤ℤ_, _<ℤ_}
 use Rattle.integers.specs.Order.{zint, sub-pn, abs-pn, parts}
-use Rattle.integers.specs.Tests.{lt-or-le}
-use Rattle.integers.specs.Ring.{Ex, con, v0, v1, v2, v3, v4, v5, v6, _⊕_, _⊖_, _⊗_}
+use Rattle.integers.specs.Ring.{Ex, v0, v1, v2, v3, v4, v5, v6, _⊕_, _⊖_, _⊗_}
 use Rattle.integers.specs.Certify.{_≼_, hyp, certify-le}
-use Rattle.rounding.specs.Coordinate.{exact}
 use Rattle.plane.specs.declared.point.Point64.{Point64}
 use Rattle.plane.specs.declared.rect.Rect64.{Rect64}
 use Rattle.theorems.specs.Demand.{ExactCrossing}

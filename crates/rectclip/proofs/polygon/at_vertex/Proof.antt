@@ -1,12 +1,11 @@
 -- `at_vertex` meets its contract. Assumes nothing.
-use mathlib.Core.Path.{_≡_, sym, ap, _∙_, subst}
+use mathlib.Core.Path.{sym, ap, _∙_, subst}
 use Prim.Native.Nat.{ℕ}
 use mir.Syntax.{w64}
 use mir.Val.{SFits}
 use Rattle.integers.specs.Tests.{eq-plain, ne-plain}
 use Rattle.plane.specs.Points.{points-of, pt-at}
-use Rattle.plane.specs.declared.point.Point64.{Point64}
-use Rattle.rectclip.specs.Bounds.{Reached, Turn}
+use Rattle.rectclip.specs.Bounds.{Reached}
 use Rattle.rectclip.proofs.ScanSteps.{index-before, level-is, pass-is, level-within, pass-within}
 use borrow.Author.Needs.{needs}
 use Rattle.rectclip.proofs.polygon.at_vertex.Statement.{statement}

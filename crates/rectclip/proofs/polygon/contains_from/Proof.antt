@@ -1,7 +1,7 @@
 -- `contains_from` meets its contract. The loop's invariant: the count so far, over the points that are left, is the whole count. Assumes nothing.
 use mathlib.Core.Path.{_≡_, refl, sym, ap, _∙_, subst}
-use mathlib.Core.Bool.{Bool, true, false}
-use Prim.Native.Nat.{ℕ, _+_, _-_, _/_, _^_, _≤_, _<_}
+use mathlib.Core.Bool.{false}
+use Prim.Native.Nat.{_-_, _/_, _≤_, _<_}
 use borrow.Author.Needs.{needs}
 use borrow.Author.Tests.{ltb-false}
 use native.Mathlib.Omega.{arith}

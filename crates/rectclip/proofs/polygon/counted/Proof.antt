@@ -1,8 +1,6 @@
 -- `counted` meets its contract. Assumes nothing.
-use mathlib.Core.Path.{_≡_, _∙_}
 use mathlib.Core.List.{List, [], _∷_}
 use lib.IntN.{pos}
-use mir.Facts.{toZ-ofZ}
 use Rattle.integers.specs.Ring.{v0, con, _⊕_, _⊖_}
 use Rattle.integers.specs.Bound.{Num, par, fits, mo-is}
 use borrow.Author.Needs.{needs}

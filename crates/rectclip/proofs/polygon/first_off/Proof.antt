@@ -1,15 +1,15 @@
 -- `first_off` meets its contract: it counts as the definition does. Assumes nothing.
-use mathlib.Core.Path.{_≡_, refl, sym, ap, _∙_}
+use mathlib.Core.Path.{_≡_, sym, ap, _∙_}
 use mathlib.Core.Bool.{Bool, true, false}
-use Prim.Native.Nat.{ℕ, _+_, _-_, _/_, _≤_, _<_}
+use Prim.Native.Nat.{ℕ, _-_, _/_, _≤_, _<_}
 use borrow.Author.Needs.{needs}
 use native.Mathlib.Omega.{arith}
 use lib.IntN.{ℤ}
 use lib.ListN.{length}
 use mir.Syntax.{w64}
 use mir.Val.{SFits}
-use Rattle.integers.specs.Tests.{eqZ, plain, eq-plain, ne-plain}
-use Rattle.plane.specs.Points.{points-of, pt-at}
+use Rattle.integers.specs.Tests.{eqZ, eq-plain, ne-plain}
+use Rattle.plane.specs.Points.{points-of}
 use Rattle.plane.specs.Polygon.{first-off}
 use Rattle.plane.specs.declared.point.Point64.{Point64}
 use Rattle.rectclip.proofs.Scans.{first-turn, first-stop, first-end}

@@ -1,5 +1,5 @@
 -- `path1_contains_path2` meets its contract. Assumes nothing.
-use mathlib.Core.Path.{_≡_, ap}
+use mathlib.Core.Path.{ap}
 use lib.IntN.{ℤ, pos}
 use lib.Signed.{leZ}
 use Rattle.integers.specs.Tests.{back}

@@ -1,8 +1,8 @@
 -- `point_in_polygon` meets its contract. Assumes nothing.
 use native.Mathlib.Nat.{mod-lt, le-of-lt}
-use Prim.Native.Nat.{ℕ, _+_, _*_, _%_, _/_, _≤_, _<_}
-use mathlib.Core.Path.{_≡_, sym, ap, _∙_, subst}
-use mathlib.Core.Bool.{Bool, false}
+use Prim.Native.Nat.{ℕ, _+_, _*_, _%_, _/_, _<_}
+use mathlib.Core.Path.{_≡_, ap, _∙_}
+use mathlib.Core.Bool.{false}
 use native.Mathlib.Omega.{arith}
 use lib.ListN.{length}
 use lib.Signed.{ltZ}

@@ -1,5 +1,4 @@
 -- `same_side` meets its contract. Assumes nothing.
-use mathlib.Core.Path.{_≡_}
 use mir.Facts.{toZ-ofZ}
 use Rattle.rectclip.proofs.polygon.same_side.Statement.{statement}
 use Rattle.rectclip.proofs.polygon.same_side.Tie as tie

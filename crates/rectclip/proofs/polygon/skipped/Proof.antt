@@ -1,7 +1,7 @@
 -- `skipped` meets its contract: it counts as the definition does. Assumes nothing.
-use mathlib.Core.Path.{_≡_, refl, sym, ap, _∙_}
-use mathlib.Core.Bool.{Bool, true, false}
-use Prim.Native.Nat.{ℕ, _+_, _-_, _/_, _≤_, _<_}
+use mathlib.Core.Path.{_≡_, sym, ap, _∙_}
+use mathlib.Core.Bool.{Bool}
+use Prim.Native.Nat.{_+_, _-_, _/_, _≤_, _<_}
 use borrow.Author.Needs.{needs}
 use borrow.Author.Tests.{not-true, not-false}
 use native.Mathlib.Omega.{arith}
@@ -12,7 +12,7 @@ use mir.Syntax.{w64}
 use mir.Val.{SFits}
 use mir.Facts.{toZ-ofZ}
 use Rattle.plane.specs.Basics.{if_then_else_}
-use Rattle.plane.specs.Points.{points-of, pt-at}
+use Rattle.plane.specs.Points.{points-of}
 use Rattle.plane.specs.Polygon.{skipped}
 use Rattle.plane.specs.declared.point.Point64.{Point64}
 use Rattle.rectclip.proofs.Scans.{skip-start, skip-turn, skip-wraps, skip-stops, skip-end}
