@@ -9,3 +9,4 @@ pub mod Polygon
 pub mod Segment
 pub mod Intersection
 pub mod Found
+pub mod Examples

@@ -8,7 +8,7 @@ use mathlib.Core.Path.{_≡_}
 use mathlib.Core.Bool.{false}
 use Rattle.plane.specs.Limit.{Limited}
 use Rattle.plane.specs.Rectangle.{is-empty, get-bounds-path}
-use Rattle.reference.specs.Demand.{AtMostOneOutside}
+use Rattle.theorems.specs.Demand.{AtMostOneOutside}
 use Rattle.theorems.proofs.Demand.{LimitedRect}
 use Rattle.plane.specs.declared.crossing.Search.{Search}
 use Rattle.plane.specs.declared.crossing.Search.the-variants.{Found}

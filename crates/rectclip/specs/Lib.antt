@@ -2,6 +2,11 @@
 pub mod Answers
 pub mod Bounds
 pub mod Parted
+pub mod Memory
+pub mod Bounds
+pub mod Parted
+pub mod Walking
+pub mod Moving
 pub mod Scanned
 pub mod Memory
 pub mod Walking

@@ -1,8 +1,8 @@
 -- The sum over a ring of a weight of each node and the next, and what splitting, joining and unlinking do to it.
-use mathlib.Core.Path.{_≡_, refl, sym, _∙_, ap}
+use mathlib.Core.Path.{_≡_, sym, _∙_, ap}
 use mathlib.Core.List.{List, [], _∷_, _++_}
 use Prim.Native.Nat.{ℕ}
-use lib.IntN.{ℤ, pos, _+ℤ_, _-ℤ_, negℤ, +ℤ-assoc, +ℤ-comm, +ℤ-idl, +ℤ-idr}
+use lib.IntN.{ℤ, pos, _+ℤ_, _-ℤ_, negℤ, +ℤ-assoc, +ℤ-comm, +ℤ-idl}
 use Rattle.theorems.proofs.RingLaw.{end, end-append}
 
 swap-mid : (a b c d : ℤ) → (a +ℤ b) +ℤ (c +ℤ d) ≡ (a +ℤ c) +ℤ (b +ℤ d)

@@ -1,19 +1,16 @@
 -- The search of the definitions is the search of the geometry: within the coordinate limit, on a proper rectangle, with the crossing in floats for `Calc`.
-use mathlib.Core.Path.{_≡_, refl, sym, _∙_, ap, subst}
-use mathlib.Core.Bool.{Bool, true, false, cond, not, _&&_, _||_, Bool·beq}
-use mathlib.Core.Logic.{_⊎_, inl, inr}
-use mathlib.Core.List.{List, [], _∷_}
-use Prim.Native.Nat.{ℕ, zero, suc, _<_, _≤_, suc-le-suc, zero-le}
+use mathlib.Core.Path.{_≡_, refl, sym, _∙_, ap}
+use mathlib.Core.Bool.{Bool, true, false, cond, _&&_, _||_, Bool·beq}
+use mathlib.Core.Logic.{inl, inr}
+use Prim.Native.Nat.{ℕ, zero, suc, _<_, suc-le-suc, zero-le}
 use native.Mathlib.Omega.{arith}
 use lib.IntN.{ℤ, pos, negsuc, natAbs, _-ℤ_, _*ℤ_}
 use lib.Ieee.{eq, le}
-use lib.Signed.{ltZ, leZ, _≤ℤ_, _<ℤ_, <ℤ-irrefl}
-use Rattle.integers.specs.Order.{zint}
+use lib.Signed.{ltZ, <ℤ-irrefl}
 use Rattle.integers.specs.Tests.{eqZ, ltZ-sub, ltZ-sub′}
 use Rattle.rounding.specs.Coordinate.{zeroF, oneF}
 use Rattle.rounding.proofs.Inside.{not-eq-zero}
 use Rattle.plane.specs.declared.point.Point64.{Point64}
-use Rattle.plane.specs.declared.crossing.Working.{Working}
 use Rattle.plane.specs.declared.crossing.Crossing.{Crossing}
 use Rattle.plane.specs.declared.crossing.Crossing.the-variants.{Nothing, At, Along}
 use Rattle.plane.specs.Limit.{Limited, AllLimited}
@@ -24,8 +21,8 @@ use Rattle.plane.specs.declared.location.Location.{Location}
 use Rattle.plane.specs.declared.location.Location.the-variants.{Left, Top, Right, Bottom, Inside}
 use Rattle.plane.specs.declared.crossing.Search.{Search}
 use Rattle.plane.specs.declared.crossing.Search.the-variants.{Missed, Found}
-use Rattle.plane.specs.Signs.{cross-product-sign, is-horizontal}
-use Rattle.plane.specs.Points.{same-point, origin}
+use Rattle.plane.specs.Signs.{cross-product-sign}
+use Rattle.plane.specs.Points.{origin}
 use Rattle.plane.specs.Intersection.{at-end, get-segment-intersection, met, edge-intersection, _or-else_, side-intersection, get-intersection}
 use Rattle.theorems.proofs.Demand.{LimitedRect}
 use Rattle.theorems.proofs.GeoPlane.{sign, cross, zero?, up?, same, samePt, on, Hit, none, known, proper, hit?, known?, segment, Side, onLeft, onTop, onRight, onBottom, loc, from, to, edge, Found as Finding, nothing, found, try, search, Proper}

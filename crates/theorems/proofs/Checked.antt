@@ -1,26 +1,24 @@
 -- `check_edges` after the walk: the invariant of `tidy_edges`, or, where the walk has entered all nodes, nothing for `tidy_edges` to do.
-use mathlib.Core.Path.{_≡_, refl, sym, _∙_, ap, subst, subst₂}
-use mathlib.Core.Bool.{Bool, true, false, cond, not, _&&_, _||_}
-use mathlib.Core.List.{List, [], _∷_, _++_}
-use mathlib.Core.Logic.{⊎-elim, _⊎_, inl, inr}
-use Prim.Native.Nat.{ℕ, zero, suc, _+_, _*_, _-_, _/_, _<_, _≤_}
-use lib.ListN.{length, getD, set, replicate, length-set, length-append}
+use mathlib.Core.Path.{_≡_, refl, sym, _∙_, ap, subst}
+use mathlib.Core.Bool.{Bool, true, false, cond, not, _&&_}
+use mathlib.Core.List.{List, [], _∷_}
+use mathlib.Core.Logic.{⊎-elim}
+use Prim.Native.Nat.{ℕ, zero, suc, _<_, _≤_}
+use lib.ListN.{length, getD}
 use lib.Dec.{eqb}
-use lib.IntN.{ℤ, pos}
+use lib.IntN.{ℤ}
 use native.Mathlib.Omega.{arith}
-use borrow.Author.Tests.{eqb-true, eqb-false, eq-eqb, ne-eqb}
+use borrow.Author.Tests.{eqb-true, eqb-false, ne-eqb}
 use Rattle.plane.specs.declared.point.Point64.{Point64}
 use Rattle.plane.specs.declared.rect.Rect64.{Rect64}
-use Rattle.plane.specs.Basics.{if_then_else_, none, push, upwards}
+use Rattle.plane.specs.Basics.{none, upwards}
 use Rattle.plane.specs.Rectangle.{get-edges-for-pt}
 use Rattle.reference.specs.Arena.{Arena, pt-of, next-of, prev-of, owner-of, edge-of, edge-list, result-of, set-results, set-result, Round, assign-sides, assign-edges, check-ring, check-from, check-edges}
-use Rattle.reference.specs.Demand.{signedArea2}
-use Rattle.theorems.proofs.RingSet.{In}
+use Rattle.theorems.proofs.RingLists.{In}
 use Rattle.theorems.proofs.RingStep.{node-in, next-live}
 use Rattle.theorems.proofs.TidyLinks.{at}
 use Rattle.theorems.proofs.TidyInv.{weight, Inv}
-use Rattle.theorems.proofs.Reading.{Some}
-use Rattle.theorems.proofs.Dropping.{Still, Dropped, one-ring, first-core, len-up}
+use Rattle.theorems.proofs.Dropping.{Dropped}
 use Rattle.theorems.proofs.Assigning.{line-at}
 use Rattle.theorems.proofs.Checking.{One, s, D, gone, there, assigned-inv, bare-inv}
 
@@ -34,14 +32,14 @@ pub record Plain (pts : List Point64) (A : ℤ) (a c : Arena) : Type 0 where
   pub edges : c .edges ≡ a .edges
 
 module _ (pts : List Point64) (small : length pts ≤ none) (rect : Rect64) (A : ℤ) (a : Arena) (B : One pts A a) (i0 : In (result-of a 0) (getD (B .rs) 0 [])) where
-  pick : (P : Arena → Type 0) (t : Bool) (x y : Arena) → (t ≡ true → P x) → (t ≡ false → P y) → P (cond t x y)
+  pub pick : (P : Arena → Type 0) (t : Bool) (x y : Arena) → (t ≡ true → P x) → (t ≡ false → P y) → P (cond t x y)
   pick P true x y h k = h refl
   pick P false x y h k = k refl
 
-  abbrev S : Round
+  abbrev pub S : Round
   S = s pts small rect A a B i0
 
-  abbrev E : Dropped pts (owner-of a) a (B .rs) 0 S
+  abbrev pub E : Dropped pts (owner-of a) a (B .rs) 0 S
   E = D pts small rect A a B i0
 
   op2-there : In (S .op2) (getD (E .rs′) 0 []) → S .op2 ≡ none → ⊥
@@ -53,7 +51,7 @@ module _ (pts : List Point64) (small : length pts ≤ none) (rect : Rect64) (A :
   first-there e = let l = node-in (weight pts) (length pts) (next-of a) (prev-of a) (owner-of a) (B .rs) (B .core .rings) 0 (result-of a 0) i0 in omega arith
 
   -- what holds after `check_edges` holds after its one ring
-  once : (P : Arena → Type 0) → P (check-ring pts rect a 0) → P (check-edges pts rect a)
+  pub once : (P : Arena → Type 0) → P (check-ring pts rect a 0) → P (check-edges pts rect a)
   unfolding check-edges check-from
   once P h = subst (λ (m : ℕ). P (check-from pts rect a (upwards 0 m))) (sym (B .results)) (pick P (eqb (result-of a 0) none) a (check-ring pts rect a 0) (λ e. absurd (first-there (eqb-true (result-of a 0) none e))) (λ e. h))
 

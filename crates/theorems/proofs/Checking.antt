@@ -1,27 +1,24 @@
 -- `check_edges` on the walk's one ring gives the invariant of `tidy_edges`.
 use mathlib.Core.Path.{_≡_, refl, sym, _∙_, ap, subst, subst₂}
-use mathlib.Core.Bool.{Bool, true, false, cond, not, _&&_, _||_}
-use mathlib.Core.List.{List, [], _∷_, _++_}
-use mathlib.Core.Logic.{⊎-elim, _⊎_, inl, inr}
-use Prim.Native.Nat.{ℕ, zero, suc, _+_, _*_, _-_, _/_, _<_, _≤_}
-use lib.ListN.{length, getD, set, replicate, length-set}
+use mathlib.Core.List.{List, [], _∷_}
+use mathlib.Core.Logic.{inl, inr}
+use Prim.Native.Nat.{ℕ, _+_, _*_, _/_, _<_, _≤_}
+use lib.ListN.{length, getD, set, length-set}
 use lib.Seq.{getD-set-same, getD-set-other}
-use lib.Dec.{eqb}
-use lib.IntN.{ℤ, pos, _+ℤ_, +ℤ-idr}
+use lib.IntN.{ℤ, pos, +ℤ-idr}
 use native.Mathlib.Omega.{arith}
 use native.Mathlib.Decide.{ℕ-discrete}
-use borrow.Author.Tests.{eqb-true, eqb-false, eq-eqb, ne-eqb}
 use Rattle.plane.specs.declared.point.Point64.{Point64}
 use Rattle.plane.specs.declared.rect.Rect64.{Rect64}
-use Rattle.plane.specs.Basics.{if_then_else_, none, push, upwards}
+use Rattle.plane.specs.Basics.{none}
 use Rattle.plane.specs.Rectangle.{get-edges-for-pt}
-use Rattle.reference.specs.Arena.{Arena, pt-of, next-of, prev-of, owner-of, edge-of, edge-list, result-of, set-results, set-result, Round, drop-collinear, assign-sides, assign-edges, check-ring, check-from, check-edges}
-use Rattle.theorems.proofs.RingSet.{In, Ok, Rings, areaOf, total, total-set}
+use Rattle.reference.specs.Arena.{Arena, pt-of, next-of, prev-of, owner-of, edge-of, edge-list, result-of, set-results, set-result, Round, drop-collinear, assign-edges}
+use Rattle.theorems.proofs.RingLists.{In}
+use Rattle.theorems.proofs.RingSet.{Ok, areaOf, total, total-set}
 use Rattle.theorems.proofs.RingStep.{Found, found-of, Lives, Core, next-live, prev-next, node-in, owner-is}
 use Rattle.theorems.proofs.TidyLinks.{level, coord, at}
 use Rattle.theorems.proofs.TidyInv.{weight, Of, On, Inv}
-use Rattle.theorems.proofs.Reading.{Some, Shrunk}
-use Rattle.theorems.proofs.Dropping.{Still, Dropped, all-dropped}
+use Rattle.theorems.proofs.Dropping.{Dropped, all-dropped}
 use Rattle.theorems.proofs.Assigning.{line-at, Asg, asg-edges}
 
 pub total-one : (wt : ℕ → ℕ → ℤ) (rs : List (List ℕ)) → length rs ≡ 1 → total wt rs ≡ areaOf wt (getD rs 0 [])

@@ -1,5 +1,5 @@
 -- Four passes are enough to go round the rectangle to a side.
-use mathlib.Core.Path.{_≡_, refl, sym, ap, _∙_, subst, fun-ext}
+use mathlib.Core.Path.{_≡_, refl, sym, ap, _∙_, fun-ext}
 use mathlib.Core.Bool.{Bool, true, false, cond, _||_}
 use Prim.Native.Nat.{ℕ, zero, suc, _+_}
 use native.Mathlib.Omega.{arith}
@@ -10,7 +10,7 @@ use Rattle.plane.specs.Basics.{if_then_else_, Try, refuse, ok, _>>=_}
 use Rattle.plane.specs.Locations.{same-location, get-adjacent-location, is-inside}
 use Rattle.plane.specs.Rectangle.{corner}
 use Rattle.reference.specs.Walk.{Walk, add, push-start-loc, add-corner-loc, add-corners, push-start-locs}
-use Rattle.reference.specs.Bounds.{CornersEnd, StartLocsEnd}
+use Rattle.theorems.specs.Bounds.{CornersEnd, StartLocsEnd}
 
 never : {W : Type 0} → true ≡ false → W
 never e = let z : _≡_ {A = ℕ} 0 1 = cc in absurd (omega arith)

@@ -1,18 +1,17 @@
 -- Every returned point of both clippers has a source, and is at most one unit outside.
 use mathlib.Core.Path.{_≡_, refl, sym, ap, _∙_, subst}
-use mathlib.Core.Bool.{Bool, true, false, cond, not, _&&_, _||_}
+use mathlib.Core.Bool.{Bool, true, false, cond, _&&_}
 use mathlib.Core.Logic.{_⊎_, inl, inr}
 use mathlib.Core.List.{List, [], _∷_, List·Memᴰ, List·Memᴰ·cases-cons, List·Memᴰ·not-nil}
-use Prim.Native.Nat.{ℕ, zero, suc, _+_, _-_, _*_, _<_, _≤_, suc-le-suc, zero-le}
+use Prim.Native.Nat.{ℕ, zero, suc, _+_, _-_, _<_}
 use native.Mathlib.Omega.{arith}
-use native.Mathlib.Nat.{not-suc-le-zero, le-of-suc-le-suc}
-use lib.ListN.{length, getD}
-use lib.Dec.{T, leb, ltb, lit<, leb→le}
-use lib.IntN.{ℤ, pos, negsuc, natAbs, negℤ, _+ℤ_, _-ℤ_, _*ℤ_}
-use lib.Signed.{ltZ, leZ, _≤ℤ_, _<ℤ_, nonNeg, yes-nonNeg, pos-natAbs}
+use lib.ListN.{length}
+use lib.Dec.{T, lit<, leb→le}
+use lib.IntN.{ℤ, pos, natAbs, _+ℤ_, _-ℤ_, _*ℤ_}
+use lib.Signed.{leZ, _≤ℤ_, _<ℤ_, yes-nonNeg, pos-natAbs}
 use Rattle.integers.specs.Order.{zint, sub-pn, add-pn}
 use Rattle.integers.specs.Tests.{leZ-false}
-use Rattle.integers.specs.Ring.{Ex, var, _⊕_, _⊖_, _⊗_, ring}
+use Rattle.integers.specs.Ring.{var, _⊕_, _⊖_, _⊗_, ring}
 use Rattle.rounding.specs.Coordinate.{exact, Near, Limit}
 use Rattle.rounding.proofs.Exact.{size-neg, neg-difference}
 use Rattle.rounding.proofs.Edge.{low-side, high-side}
@@ -23,19 +22,20 @@ use Rattle.plane.specs.declared.location.Location.{Location}
 use Rattle.plane.specs.declared.location.Location.the-variants.{Left, Top, Right, Bottom, Inside}
 use Rattle.plane.specs.declared.crossing.Search.{Search}
 use Rattle.plane.specs.declared.crossing.Search.the-variants.{Missed, Found}
-use Rattle.plane.specs.Basics.{if_then_else_, Try, refuse, ok}
+use Rattle.plane.specs.Basics.{Try, ok}
 use Rattle.plane.specs.Points.{pt-at, point, origin, points-of}
 use Rattle.plane.specs.Rectangle.{as-path, is-empty, beyond}
 use Rattle.plane.specs.Locations.{same-location, lower, upper}
-use Rattle.plane.specs.Intersection.{edge-from, edge-to, met, edge-intersection, _or-else_, side-intersection, get-intersection}
+use Rattle.plane.specs.Intersection.{edge-intersection, _or-else_, side-intersection, get-intersection}
 use Rattle.reference.specs.Clip.{execute}
 use Rattle.reference.specs.Lines.{execute-lines}
-use Rattle.reference.specs.Demand.{ExactCrossing, NearTo, InOrOn, Segment, onward, closing, turned, Source, input-point, corner-point, crossing, AtMostOneOutside, Sourced, Between, across, along, line-of, begin-of, end-of, extent, reach, is-upright}
+use Rattle.theorems.specs.Demand.{ExactCrossing, NearTo, Segment, onward, closing, turned, Source, input-point, corner-point, crossing, AtMostOneOutside, Sourced, Between, across}
 use Rattle.theorems.proofs.Holds.{Holds, refused, held, either, All, all-at}
-use Rattle.theorems.proofs.OnEdge.{neither}
 use Rattle.theorems.proofs.Returned.{AllPaths, KeptPaths}
 use Rattle.theorems.proofs.Sources.{Hit, at-corner, at-crossing, Searches, closed-sources, open-sources}
-use Rattle.theorems.proofs.Crossings.{NearBy, Got, got-from, got-to, got-near, upright-got, level-got, scaled}
+use Rattle.theorems.proofs.CrossingSigns.{NearBy, scaled}
+use Rattle.theorems.proofs.Crossings.{Got, got-from, got-to, got-near, upright-got, level-got}
+use Rattle.theorems.proofs.Tests.{neither}
 
 -- ---- the search
 pub record LimitedRect (r : Rect64) : Type 0 where

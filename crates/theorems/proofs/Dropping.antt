@@ -1,27 +1,27 @@
 -- "Remove collinear points" of `check_edges` keeps the ring's area, and the arena that the walk leaves is one ring with the outline's area.
-use mathlib.Core.Path.{_≡_, refl, sym, _∙_, ap, subst, subst₂}
+use mathlib.Core.Path.{_≡_, refl, sym, _∙_, ap, subst}
 use mathlib.Core.Bool.{Bool, true, false, cond, not, _&&_, _||_}
-use mathlib.Core.List.{List, [], _∷_, _++_}
+use mathlib.Core.List.{List, [], _∷_}
 use mathlib.Core.Logic.{⊎-elim, _⊎_, inl, inr}
-use Prim.Native.Nat.{ℕ, zero, suc, _+_, _*_, _-_, _<_, _≤_}
-use lib.ListN.{length, getD, set, drop, replicate, length-set, List·getD-append, getD-replicate, length-append}
-use lib.Seq.{getD-set-same, getD-set-other, getD-at, drop-cons}
+use Prim.Native.Nat.{ℕ, zero, suc, _+_, _-_, _<_, _≤_}
+use lib.ListN.{length, getD, drop, replicate, List·getD-append, getD-replicate}
+use lib.Seq.{getD-at, drop-cons}
 use lib.Dec.{eqb}
-use lib.IntN.{ℤ, pos, _+ℤ_, +ℤ-idr}
+use lib.IntN.{pos, +ℤ-idr}
 use native.Mathlib.Omega.{arith}
 use native.Mathlib.Decide.{ℕ-discrete}
-use borrow.Author.Tests.{eqb-true, eqb-false, eq-eqb, ne-eqb}
+use borrow.Author.Tests.{eqb-false, eq-eqb, ne-eqb}
 use Rattle.plane.specs.declared.point.Point64.{Point64}
-use Rattle.plane.specs.Basics.{if_then_else_, none, push, upwards}
+use Rattle.plane.specs.Basics.{none, push, upwards}
 use Rattle.reference.specs.Arena.{Arena, pt-of, next-of, prev-of, owner-of, result-of, set-next, set-prev, unlink, unlink-op-back, is-flat, Round, drop-collinear-pass, drop-collinear, ring}
-use Rattle.reference.specs.Demand.{area-to, signedArea2}
-use Rattle.theorems.proofs.RingLaw.{Link, Chain, Ring, end, Off, Distinct}
-use Rattle.theorems.proofs.AreaLaw.{sum, area}
-use Rattle.theorems.proofs.RingSet.{All, In, Ok, Rings, areaOf, total}
-use Rattle.theorems.proofs.RingStep.{Found, Core, Turned, from-node, next-live, prev-live, next-prev, prev-next, node-in}
-use Rattle.theorems.proofs.TidyLinks.{at}
+use Rattle.theorems.specs.Demand.{area-to, signedArea2}
+use Rattle.theorems.proofs.RingLaw.{Chain, Ring, end, Off, Distinct}
+use Rattle.theorems.proofs.AreaLaw.{area}
+use Rattle.theorems.proofs.RingLists.{All, In}
+use Rattle.theorems.proofs.RingSet.{Rings, areaOf, total}
+use Rattle.theorems.proofs.RingStep.{Found, Core, from-node, next-live, prev-live, next-prev, prev-next, node-in}
 use Rattle.theorems.proofs.TidyInv.{weight}
-use Rattle.theorems.proofs.Reading.{Some, Shrunk, shrunk-self, shrunk-trans, Cut, cut-flat, stub-area, pt-list, list-area}
+use Rattle.theorems.proofs.Reading.{Some, Shrunk, shrunk-self, shrunk-trans, cut-flat, stub-area, pt-list, list-area}
 
 -- what is no link stays
 pub record Still (a b : Arena) : Type 0 where
@@ -30,7 +30,7 @@ pub record Still (a b : Arena) : Type 0 where
   pub results : b .results ≡ a .results
   pub edges : b .edges ≡ a .edges
 
-unlink-still : (a : Arena) (b : ℕ) → Still a (unlink a b)
+pub unlink-still : (a : Arena) (b : ℕ) → Still a (unlink a b)
 unfolding unlink set-next set-prev
 unlink-still a b = go (eqb (next-of a b) b)
   where

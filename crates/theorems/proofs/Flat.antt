@@ -1,18 +1,18 @@
 -- To unlink a node that is in line with its neighbours changes no ring's area.
-use mathlib.Core.Path.{_≡_, refl, sym, ap, _∙_, subst}
-use mathlib.Core.Bool.{Bool, true}
+use mathlib.Core.Path.{_≡_, _∙_, subst}
+use mathlib.Core.Bool.{true}
 use mathlib.Core.List.{List, [], _∷_}
-use Prim.Native.Nat.{ℕ, _<_}
-use lib.IntN.{ℤ, pos, _+ℤ_, _-ℤ_, _*ℤ_}
+use Prim.Native.Nat.{ℕ}
+use lib.IntN.{ℤ, _+ℤ_, _-ℤ_, _*ℤ_}
 use Rattle.integers.specs.Laws.{ -ℤ-zero}
 use Rattle.integers.specs.Tests.{eqZ-true}
-use Rattle.integers.specs.Ring.{Ex, var, _⊕_, _⊖_, _⊗_, ring}
+use Rattle.integers.specs.Ring.{var, _⊕_, _⊖_, _⊗_, ring}
 use Rattle.rounding.proofs.Exact.{none}
 use Rattle.plane.specs.declared.point.Point64.{Point64}
 use Rattle.plane.specs.Signs.{is-collinear}
-use Rattle.reference.specs.Arena.{Arena, pt-of, next-of, prev-of, is-flat, unlink}
-use Rattle.reference.specs.Demand.{area-step}
-use Rattle.theorems.proofs.RingLaw.{Ring, Distinct, end, Link}
+use Rattle.reference.specs.Arena.{Arena, pt-of, next-of, prev-of, is-flat}
+use Rattle.theorems.specs.Demand.{area-step}
+use Rattle.theorems.proofs.RingLaw.{Ring, end}
 use Rattle.theorems.proofs.AreaLaw.{area, area-unlink}
 
 triangle : (ux uy bx by vx vy : ℤ) → ((ux *ℤ by -ℤ bx *ℤ uy) +ℤ (bx *ℤ vy -ℤ vx *ℤ by)) -ℤ (ux *ℤ vy -ℤ vx *ℤ uy) ≡ (bx -ℤ ux) *ℤ (vy -ℤ by) -ℤ (by -ℤ uy) *ℤ (vx -ℤ bx)

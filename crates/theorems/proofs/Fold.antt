@@ -1,16 +1,14 @@
 -- The closed walk without a count: by recursion on the points, each of which is met once. The loop of the definitions, with its count, is this fold.
 use mathlib.Core.Path.{_≡_, refl, sym, _∙_, ap, subst}
-use mathlib.Core.Bool.{Bool, true, false, cond, not, _&&_, _||_}
-use mathlib.Core.Logic.{_⊎_, inl, inr}
+use mathlib.Core.Bool.{Bool, true, false, cond, not, _&&_}
 use mathlib.Core.List.{List, [], _∷_}
 use Prim.Native.Nat.{ℕ, zero, suc, _+_, _-_, _<_, _≤_}
 use native.Mathlib.Omega.{arith}
-use lib.ListN.{length, getD, drop}
+use lib.ListN.{length, drop}
 use lib.Seq.{drop-cons}
-use lib.Dec.{T, leb, ltb, eqb, leb→le, nleb→lt, ltb→lt, nltb→le}
-use lib.IntN.{ℤ, pos}
+use lib.Dec.{leb, ltb, ltb→lt, nltb→le}
 use lib.Signed.{ltZ, leZ}
-use Rattle.integers.specs.Tests.{T-of, T-not-of}
+use Rattle.integers.specs.Tests.{T-of, T-not-of, cond-true}
 use Rattle.plane.specs.declared.point.Point64.{Point64}
 use Rattle.plane.specs.Limit.{Limited}
 use Rattle.plane.specs.declared.rect.Rect64.{Rect64}
@@ -21,165 +19,18 @@ use Rattle.plane.specs.declared.crossing.Search.the-variants.{Missed, Found}
 use Rattle.plane.specs.Basics.{if_then_else_, lead, Try, refuse, ok, _>>=_}
 use Rattle.plane.specs.Points.{origin, pt-at}
 use Rattle.plane.specs.Locations.{same-location, is-inside}
-use Rattle.plane.specs.Rectangle.{mid-point, beyond, beyond-or-on}
+use Rattle.plane.specs.Rectangle.{mid-point, beyond-or-on}
 use Rattle.plane.specs.Intersection.{get-intersection}
 use Rattle.plane.specs.Signs.{is-clockwise-dir}
 use Rattle.reference.specs.Walk.{Walk, add, push-start-locs, add-corners, Next, next-side, next-outside, next-inside, get-next-location, State, Pass, remain-outside, cross-boundary, pt-before, pass-from, passes}
-use Rattle.theorems.proofs.Holds.{Holds, refused, held, bind, either, All, all-at}
+use Rattle.theorems.proofs.Holds.{Holds, refused, held, bind, either, All, all-at, anything}
 use Rattle.theorems.proofs.Demand.{LimitedRect}
-use Rattle.theorems.proofs.GeoPlane.{Side, onLeft, onTop, onRight, onBottom, loc, Proper}
+use Rattle.theorems.proofs.GeoPlane.{loc, Proper}
 use Rattle.theorems.proofs.GeoWalk.{Step, skip, stop, step}
-use Rattle.theorems.proofs.GeoProgress.{In, Stop, enters, passes as crosses, leaves, Steps, goes, halts, steps, never, skips-in, stop-clash}
-use Rattle.theorems.proofs.Passes.{Rest, rest-of, first-of, others-of, Stays, cross-stays, before-limited}
-
--- ---- the definition, as it would stand in specs/Walk
-module _ (full : ℕ → Bool) (rect : Rect64) where
-  -- `get_next_location` at one point: where it stops, or the same location where it goes past the point
-  unfoldable pub next-location : Location → Point64 → Location
-  next-location Left p = if beyond-or-on rect Left p then Left else next-side rect Left p
-  next-location Top p = if beyond-or-on rect Top p then Top else next-side rect Top p
-  next-location Right p = if beyond-or-on rect Right p then Right else next-side rect Right p
-  next-location Bottom p = if beyond-or-on rect Bottom p then Bottom else next-side rect Bottom p
-  next-location Inside p =
-      if beyond rect Left p then Left
-      else if beyond rect Right p then Right
-      else if beyond rect Bottom p then Bottom
-      else if beyond rect Top p then Top
-      else Inside
-
-  -- going past a point: inside, it is added
-  unfoldable pub go-past : Point64 → State → Try State
-  go-past p s =
-      (if is-inside (s .loc) then add full (s .walk) p false else ok (s .walk))
-      >>= λ w. ok (record { walk = w; i = s .i + 1; loc = s .loc; crossing-loc = s .crossing-loc; first-cross = s .first-cross })
-
-  -- all that the walk does at the point p, which comes after q. A pass that finds a crossing is followed by one that goes past the point
-  unfoldable pub at-point : State → Point64 → Point64 → Try State
-  at-point s q p =
-      let l = next-location (s .loc) p in
-      let c : Pass = record { walk = s .walk; i = s .i; prev = s .loc; loc = l; crossing-prev = s .crossing-loc; first-cross = s .first-cross; prev-pt = q; pt = p } in
-      let stopped : Try State = elim (get-intersection rect p q l) [ Missed ↦ remain-outside full rect c | Found ip crossing-loc ↦ cross-boundary full rect c ip crossing-loc >>= go-past p ] in
-      if same-location l (s .loc) then go-past p s else stopped
-
-  unfoldable pub walk-on : State → Point64 → List Point64 → Try State
-  walk-on s q [] = ok s
-  walk-on s q (p ∷ ps) = at-point s q p >>= λ t. walk-on t p ps
-
--- ---- one point of `get_next_location`
-abbrev pub after : Location → Step → Location
-after l skip = l
-after l (stop l′) = l′
-
-module _ (full : ℕ → Bool) (r : Rect64) where
-  pub next-is : (l : Location) (p : Point64) → next-location full r l p ≡ after l (step r l p)
-  unfolding next-location next-side
-  next-is Left p = go (leZ (p .x) (r .left))
-    where
-      go : (b : Bool) → cond b Left (next-side r Left p) ≡ after Left (cond b skip (stop (next-side r Left p)))
-      go true = refl
-      go false = refl
-  next-is Top p = go (leZ (p .y) (r .top))
-    where
-      go : (b : Bool) → cond b Top (next-side r Top p) ≡ after Top (cond b skip (stop (next-side r Top p)))
-      go true = refl
-      go false = refl
-  next-is Right p = go (leZ (r .right) (p .x))
-    where
-      go : (b : Bool) → cond b Right (next-side r Right p) ≡ after Right (cond b skip (stop (next-side r Right p)))
-      go true = refl
-      go false = refl
-  next-is Bottom p = go (leZ (r .bottom) (p .y))
-    where
-      go : (b : Bool) → cond b Bottom (next-side r Bottom p) ≡ after Bottom (cond b skip (stop (next-side r Bottom p)))
-      go true = refl
-      go false = refl
-  next-is Inside p = go (ltZ (p .x) (r .left)) (ltZ (r .right) (p .x)) (ltZ (r .bottom) (p .y)) (ltZ (p .y) (r .top))
-    where
-      go : (a b c d : Bool) → cond a Left (cond b Right (cond c Bottom (cond d Top Inside))) ≡ after Inside (cond a (stop Left) (cond b (stop Right) (cond c (stop Bottom) (cond d (stop Top) skip))))
-      go true b c d = refl
-      go false true c d = refl
-      go false false true d = refl
-      go false false false true = refl
-      go false false false false = refl
-
-  same-refl : (l : Location) → same-location l l ≡ true
-  same-refl Left = refl
-  same-refl Top = refl
-  same-refl Right = refl
-  same-refl Bottom = refl
-  same-refl Inside = refl
-
-  -- where it goes past
-  pub past-next : (l : Location) (p : Point64) → step r l p ≡ skip → same-location (next-location full r l p) l ≡ true
-  past-next l p e = ap (λ (z : Location). same-location z l) (next-is l p ∙ ap (after l) e) ∙ same-refl l
-
-  pub differ : (p : Point64) (l l′ : Location) → Stop r p l l′ → (b : Bool) → same-location l′ l ≡ b → b ≡ false
-  differ p l l′ t true e = absurd (stop-clash t (same-in l l′ e (Rattle.theorems.proofs.Passes.stop-in r p t)))
-    where
-      same-in : (l l′ : Location) → same-location l′ l ≡ true → In r l′ p → In r l p
-      same-in Left Left e h = h
-      same-in Left Top e h = absurd (never e refl)
-      same-in Left Right e h = absurd (never e refl)
-      same-in Left Bottom e h = absurd (never e refl)
-      same-in Left Inside e h = absurd (never e refl)
-      same-in Top Left e h = absurd (never e refl)
-      same-in Top Top e h = h
-      same-in Top Right e h = absurd (never e refl)
-      same-in Top Bottom e h = absurd (never e refl)
-      same-in Top Inside e h = absurd (never e refl)
-      same-in Right Left e h = absurd (never e refl)
-      same-in Right Top e h = absurd (never e refl)
-      same-in Right Right e h = h
-      same-in Right Bottom e h = absurd (never e refl)
-      same-in Right Inside e h = absurd (never e refl)
-      same-in Bottom Left e h = absurd (never e refl)
-      same-in Bottom Top e h = absurd (never e refl)
-      same-in Bottom Right e h = absurd (never e refl)
-      same-in Bottom Bottom e h = h
-      same-in Bottom Inside e h = absurd (never e refl)
-      same-in Inside Left e h = absurd (never e refl)
-      same-in Inside Top e h = absurd (never e refl)
-      same-in Inside Right e h = absurd (never e refl)
-      same-in Inside Bottom e h = absurd (never e refl)
-      same-in Inside Inside e h = h
-  differ p l l′ t false e = refl
-
--- ---- tests of numbers
-pub lt-yes : (m n : ℕ) → m < n → ltb m n ≡ true
-lt-yes m n h = go (ltb m n) refl
-  where
-    go : (b : Bool) → ltb m n ≡ b → b ≡ true
-    go true e = refl
-    go false e = absurd (let z : n ≤ m = nltb→le m n (T-not-of e) in omega arith)
-
-pub lt-no : (m n : ℕ) → n ≤ m → ltb m n ≡ false
-lt-no m n h = go (ltb m n) refl
-  where
-    go : (b : Bool) → ltb m n ≡ b → b ≡ false
-    go true e = absurd (let z : m < n = ltb→lt m n (T-of e) in omega arith)
-    go false e = refl
-
-pub le-yes : (m n : ℕ) → m ≤ n → leb m n ≡ true
-le-yes m n h = go (leb m n) refl
-  where
-    go : (b : Bool) → leb m n ≡ b → b ≡ true
-    go true e = refl
-    go false e = absurd (let z : n < m = nleb→lt m n (T-not-of e) in omega arith)
-
-pub le-no : (m n : ℕ) → n < m → leb m n ≡ false
-le-no m n h = go (leb m n) refl
-  where
-    go : (b : Bool) → leb m n ≡ b → b ≡ false
-    go true e = absurd (let z : m ≤ n = leb→le m n (T-of e) in omega arith)
-    go false e = refl
-
-pub cond-yes : {A : Type 0} (b : Bool) (x y : A) → b ≡ true → cond b x y ≡ x
-cond-yes true x y e = refl
-cond-yes false x y e = absurd (never e refl)
-
-pub cond-no : {A : Type 0} (b : Bool) (x y : A) → b ≡ false → cond b x y ≡ y
-cond-no true x y e = absurd (never refl e)
-cond-no false x y e = refl
+use Rattle.theorems.proofs.GeoProgress.{In, Stop, Steps, goes, halts, steps, skips-in}
+use Rattle.theorems.proofs.NextPoints.{Rest, rest-of, first-of, others-of}
+use Rattle.theorems.proofs.Passes.{Stays, cross-stays, before-limited}
+use Rattle.theorems.proofs.FoldPoints.{next-location, go-past, at-point, walk-on, after, next-is, past-next, differ, lt-yes, lt-no, le-yes, le-no, cond-no}
 
 -- ---- binding
 pub assoc : {A B C : Type 0} (m : Try A) (f : A → Try B) (g : B → Try C) → (m >>= f >>= g) ≡ (m >>= λ a. f a >>= g)
@@ -192,10 +43,6 @@ bind-same Q m f g (held {a} q) h = h a q
 
 abbrev pub Any : Walk → Type 0
 Any w = Unit {0}
-
-pub any : (m : Try Walk) → Holds Any m
-any (refuse n) = refused
-any (ok w) = held tt
 
 module _ (full : ℕ → Bool) (r : Rect64) (path : List Point64) where
   -- ---- `get_next_location`, point by point
@@ -315,7 +162,7 @@ module _ (full : ℕ → Bool) (r : Rect64) (path : List Point64) where
 
   over-end : (s : State) (v : Walk) → length path ≤ s .i + 1 → pass-from full r path s (record { walk = v; loc = s .loc; i = s .i + 1 }) ≡ ok (further s v)
   unfolding pass-from
-  over-end s v h = cond-yes (leb (length path) (s .i + 1)) _ _ (le-yes (length path) (s .i + 1) h)
+  over-end s v h = cond-true (leb (length path) (s .i + 1)) _ _ (le-yes (length path) (s .i + 1) h)
 
   same-from : (s : State) (v : Walk) (n : ℕ) (m : Try Next) → (m >>= pass-from full r path (further s v) >>= passes full r path n) ≡ (m >>= pass-from full r path s >>= passes full r path n)
   unfolding pass-from
@@ -340,7 +187,7 @@ module _ (full : ℕ → Bool) (r : Rect64) (path : List Point64) where
       ∙ ap (λ (m : Try Next). m >>= pass-from full r path s >>= passes full r path n) (next-chosen (s .walk) (s .loc) (s .i) h ∙ ap (chosen (s .walk) (s .loc) (s .i)) e)
       ∙ ap (λ (m : Try State). m >>= passes full r path n) (assoc w (λ v. get-next-location full r path v (s .loc) (s .i + 1)) (pass-from full r path s))
       ∙ assoc w (λ v. get-next-location full r path v (s .loc) (s .i + 1) >>= pass-from full r path s) (passes full r path n)
-      ∙ bind-same Any w _ _ (any w) (λ v _. passes-on n s v)
+      ∙ bind-same Any w _ _ (anything w) (λ v _. passes-on n s v)
       ∙ sym (assoc w (λ v. ok (further s v)) (passes full r path (suc n)))
     where
       w : Try Walk
@@ -354,14 +201,14 @@ module _ (full : ℕ → Bool) (r : Rect64) (path : List Point64) where
   unfolding remain-outside
   remain-next c =
       either (Nexts (c .i)) (is-inside (c .crossing-prev)) _ _
-      (λ _. bind Any (Nexts (c .i)) (push-start-locs full r 4 (c .walk) (c .prev) (c .loc) (is-clockwise-dir (c .prev) (c .loc) (c .prev-pt) (c .pt) (mid-point r))) _ (any _) (λ w _. held refl))
+      (λ _. bind Any (Nexts (c .i)) (push-start-locs full r 4 (c .walk) (c .prev) (c .loc) (is-clockwise-dir (c .prev) (c .loc) (c .prev-pt) (c .pt) (mid-point r))) _ (anything _) (λ w _. held refl))
       (λ _. either (Nexts (c .i)) (not (is-inside (c .prev)) && not (same-location (c .prev) (c .loc))) _ _
-      (λ _. bind Any (Nexts (c .i)) (add-corners full r 4 (c .walk) (c .prev) (c .loc) (is-clockwise-dir (c .prev) (c .loc) (c .prev-pt) (c .pt) (mid-point r))) _ (any _) (λ w _. held refl))
+      (λ _. bind Any (Nexts (c .i)) (add-corners full r 4 (c .walk) (c .prev) (c .loc) (is-clockwise-dir (c .prev) (c .loc) (c .prev-pt) (c .pt) (mid-point r))) _ (anything _) (λ w _. held refl))
       (λ _. held refl))
 
   past-next-i : (p : Point64) (s : State) → Holds (Nexts (s .i)) (go-past full r p s)
   unfolding go-past
-  past-next-i p s = bind Any (Nexts (s .i)) (passed (s .loc) (s .walk) p) _ (any _) (λ w _. held refl)
+  past-next-i p s = bind Any (Nexts (s .i)) (passed (s .loc) (s .walk) p) _ (anything _) (λ w _. held refl)
 
   -- the pass at point i, at which `get_next_location` stops with the location l
   abbrev pub pass-at : State → Location → Point64 → Point64 → Pass
@@ -402,7 +249,7 @@ module _ (full : ℕ → Bool) (r : Rect64) (path : List Point64) where
 
   pub at-gone : (s : State) (q p : Point64) → step r (s .loc) p ≡ skip → at-point full r s q p ≡ go-past full r p s
   unfolding at-point
-  at-gone s q p e = cond-yes (same-location (next-location full r (s .loc) p) (s .loc)) _ _ (past-next full r (s .loc) p e)
+  at-gone s q p e = cond-true (same-location (next-location full r (s .loc) p) (s .loc)) _ _ (past-next full r (s .loc) p e)
 
   before-is : (i : ℕ) → pt-before path (i + 1) ≡ pt-at path i
   before-is i = ap (λ (b : Bool). pt-at path (if b then i + 1 - 1 else length path - 1)) (lt-yes 0 (i + 1) (omega arith)) ∙ ap (pt-at path) (let z : i + 1 - 1 ≡ i = omega arith in z)
@@ -487,7 +334,7 @@ module _ (full : ℕ → Bool) (r : Rect64) (path : List Point64) where
                 ∙ ap (λ (m : Try State). m >>= λ t. walk-on full r t (pt-at path (s .i)) ps) (sym (at-gone s q (pt-at path (s .i)) f))
             go (halts l′ f t) = stops ps ih n s l rest h l′ f t
 
-    -- the whole walk, from any location: the point before the first is the last
+    -- the whole walk, from anything location: the point before the first is the last
     pub walk-folds : (w : Walk) (l : Location)
         → (let s : State = record { walk = w; i = 0; loc = l; crossing-loc = Inside; first-cross = Inside } in passes full r path (length path + 1) s ≡ walk-on full r s (pt-at path (length path - 1)) path)
     walk-folds w l = folds path (length path + 1) (record { walk = w; i = 0; loc = l; crossing-loc = Inside; first-cross = Inside }) (rest-of path 0 (omega arith)) (omega arith)

@@ -1,28 +1,30 @@
 -- The walk of lines without a count, as proofs/Fold for the closed walk.
 use mathlib.Core.Path.{_≡_, refl, sym, _∙_, ap, subst}
-use mathlib.Core.Bool.{Bool, true, false, cond, not, _&&_, _||_}
+use mathlib.Core.Bool.{Bool, true, false, not}
 use mathlib.Core.List.{List, [], _∷_}
 use Prim.Native.Nat.{ℕ, zero, suc, _+_, _-_, _<_, _≤_}
 use native.Mathlib.Omega.{arith}
-use lib.ListN.{length, getD, drop}
-use lib.Dec.{T, leb, ltb, ltb→lt, nltb→le}
-use Rattle.integers.specs.Tests.{T-of, T-not-of}
+use lib.ListN.{length, drop}
+use lib.Dec.{leb, ltb, ltb→lt, nltb→le}
+use Rattle.integers.specs.Tests.{T-of, T-not-of, cond-true}
 use Rattle.plane.specs.declared.point.Point64.{Point64}
 use Rattle.plane.specs.declared.rect.Rect64.{Rect64}
 use Rattle.plane.specs.declared.location.Location.{Location}
 use Rattle.plane.specs.declared.crossing.Search.{Search}
 use Rattle.plane.specs.declared.crossing.Search.the-variants.{Missed, Found}
-use Rattle.plane.specs.Basics.{if_then_else_, Try, refuse, ok, _>>=_}
-use Rattle.plane.specs.Points.{origin, pt-at}
+use Rattle.plane.specs.Basics.{if_then_else_, Try, ok, _>>=_}
+use Rattle.plane.specs.Points.{pt-at}
 use Rattle.plane.specs.Locations.{same-location, is-inside}
 use Rattle.plane.specs.Intersection.{get-intersection}
 use Rattle.reference.specs.Walk.{Walk, add, Next, get-next-location}
 use Rattle.reference.specs.Lines.{line-through, line-cross, line-from, line-passes}
-use Rattle.theorems.proofs.Holds.{Holds, refused, held, bind, either, by-search}
-use Rattle.theorems.proofs.GeoWalk.{Step, skip, stop, step}
+use Rattle.theorems.proofs.Holds.{Holds, refused, held, bind, either, by-search, anything}
+use Rattle.theorems.proofs.GeoWalk.{skip, stop, step}
 use Rattle.theorems.proofs.GeoProgress.{In, Stop, Steps, goes, halts, steps, skips-in}
-use Rattle.theorems.proofs.Passes.{Rest, rest-of, first-of, others-of, stop-in}
-use Rattle.theorems.proofs.Fold.{next-location, next-is, after, differ, past-next, lt-yes, lt-no, le-yes, le-no, cond-yes, cond-no, assoc, bind-same, Any, any, passed, chosen, next-chosen, next-end}
+use Rattle.theorems.proofs.NextPoints.{Rest, rest-of, first-of, others-of}
+use Rattle.theorems.proofs.Passes.{stop-in}
+use Rattle.theorems.proofs.FoldPoints.{next-location, next-is, after, differ, past-next, lt-yes, lt-no, le-yes, le-no, cond-no}
+use Rattle.theorems.proofs.Fold.{assoc, bind-same, Any, passed, chosen, next-chosen, next-end}
 
 -- ---- the definition, as it would stand in specs/Lines
 module _ (full : ℕ → Bool) (rect : Rect64) where
@@ -51,18 +53,18 @@ module _ (full : ℕ → Bool) (r : Rect64) (path : List Point64) where
   pub cross-stays : (nx : Next) (prev : Location) (q p ip : Point64) → Holds (StaysAt nx) (line-cross full r nx prev q p ip)
   unfolding line-cross line-through
   cross-stays nx prev q p ip =
-      either (StaysAt nx) (is-inside (nx .loc)) _ _ (λ _. bind Any (StaysAt nx) (add full (nx .walk) ip true) _ (any _) (λ w _. held (refl, refl)))
+      either (StaysAt nx) (is-inside (nx .loc)) _ _ (λ _. bind Any (StaysAt nx) (add full (nx .walk) ip true) _ (anything _) (λ w _. held (refl, refl)))
       (λ _. either (StaysAt nx) (not (is-inside prev)) _ _
       (λ _. by-search (StaysAt nx) (get-intersection r q p prev) _ _ (λ _. refused)
-      (λ ip2 l e. bind Any (StaysAt nx) (add full (nx .walk) ip2 true) _ (any _) (λ w _. bind Any (StaysAt nx) (add full w ip false) _ (any _) (λ v _. held (refl, refl)))))
-      (λ _. bind Any (StaysAt nx) (add full (nx .walk) ip false) _ (any _) (λ w _. held (refl, refl))))
+      (λ ip2 l e. bind Any (StaysAt nx) (add full (nx .walk) ip2 true) _ (anything _) (λ w _. bind Any (StaysAt nx) (add full w ip false) _ (anything _) (λ v _. held (refl, refl)))))
+      (λ _. bind Any (StaysAt nx) (add full (nx .walk) ip false) _ (anything _) (λ w _. held (refl, refl))))
 
   abbrev Nexts : ℕ → Next → Type 0
   Nexts i t = t .i ≡ i + 1
 
   past-next-i : (p : Point64) (s : Next) → Holds (Nexts (s .i)) (line-past full r p s)
   unfolding line-past
-  past-next-i p s = bind Any (Nexts (s .i)) (passed full r path (s .loc) (s .walk) p) _ (any _) (λ w _. held refl)
+  past-next-i p s = bind Any (Nexts (s .i)) (passed full r path (s .loc) (s .walk) p) _ (anything _) (λ w _. held refl)
 
   -- ---- the loop
   passes-over : (n : ℕ) (s : Next) → length path ≤ s .i → line-passes full r path n s ≡ ok s
@@ -72,14 +74,14 @@ module _ (full : ℕ → Bool) (r : Rect64) (path : List Point64) where
 
   passes-at : (n : ℕ) (s : Next) → s .i < length path → line-passes full r path (suc n) s ≡ (get-next-location full r path (s .walk) (s .loc) (s .i) >>= line-from full r path (s .loc) >>= line-passes full r path n)
   unfolding line-passes
-  passes-at n s h = cond-yes (ltb (s .i) (length path)) _ _ (lt-yes (s .i) (length path) h)
+  passes-at n s h = cond-true (ltb (s .i) (length path)) _ _ (lt-yes (s .i) (length path) h)
 
   abbrev further : Next → Walk → Next
   further s v = record { walk = v; loc = s .loc; i = s .i + 1 }
 
   over-end : (s : Next) (v : Walk) → length path ≤ s .i + 1 → line-from full r path (s .loc) (further s v) ≡ ok (further s v)
   unfolding line-from
-  over-end s v h = cond-yes (leb (length path) (s .i + 1)) _ _ (le-yes (length path) (s .i + 1) h)
+  over-end s v h = cond-true (leb (length path) (s .i + 1)) _ _ (le-yes (length path) (s .i + 1) h)
 
   passes-on : (n : ℕ) (s : Next) (v : Walk) → (get-next-location full r path v (s .loc) (s .i + 1) >>= line-from full r path (s .loc) >>= line-passes full r path n) ≡ line-passes full r path (suc n) (further s v)
   passes-on n s v = go (ltb (s .i + 1) (length path)) refl
@@ -100,7 +102,7 @@ module _ (full : ℕ → Bool) (r : Rect64) (path : List Point64) where
       ∙ ap (λ (m : Try Next). m >>= line-from full r path (s .loc) >>= line-passes full r path n) (next-chosen full r path (s .walk) (s .loc) (s .i) h ∙ ap (chosen full r path (s .walk) (s .loc) (s .i)) e)
       ∙ ap (λ (m : Try Next). m >>= line-passes full r path n) (assoc w (λ v. get-next-location full r path v (s .loc) (s .i + 1)) (line-from full r path (s .loc)))
       ∙ assoc w (λ v. get-next-location full r path v (s .loc) (s .i + 1) >>= line-from full r path (s .loc)) (line-passes full r path n)
-      ∙ bind-same Any w _ _ (any w) (λ v _. passes-on n s v)
+      ∙ bind-same Any w _ _ (anything w) (λ v _. passes-on n s v)
       ∙ sym (assoc w (λ v. ok (further s v)) (line-passes full r path (suc n)))
     where
       w : Try Walk
@@ -145,7 +147,7 @@ module _ (full : ℕ → Bool) (r : Rect64) (path : List Point64) where
 
   pub at-gone : (s : Next) (q p : Point64) → step r (s .loc) p ≡ skip → line-at full r s q p ≡ line-past full r p s
   unfolding line-at
-  at-gone s q p e = cond-yes (same-location (next-location full r (s .loc) p) (s .loc)) _ _ (past-next full r (s .loc) p e)
+  at-gone s q p e = cond-true (same-location (next-location full r (s .loc) p) (s .loc)) _ _ (past-next full r (s .loc) p e)
 
   abbrev Folds : List Point64 → Type 0
   Folds ps = (n : ℕ) (s : Next) → Rest path (s .i) ps → length path < n + s .i → line-passes full r path n s ≡ line-on full r s (pt-at path (s .i - 1)) ps
@@ -208,7 +210,7 @@ module _ (full : ℕ → Bool) (r : Rect64) (path : List Point64) where
           ∙ ap (λ (m : Try Next). m >>= λ t. line-on full r t (pt-at path (s .i)) ps) (sym (at-gone s (pt-at path (s .i - 1)) (pt-at path (s .i)) f))
       go (halts l′ f t) ih = stops ps ih n s l rest h l′ f t
 
-  -- the whole walk, from any location: the first point stands before the others
+  -- the whole walk, from anything location: the first point stands before the others
   pub line-folds : (w : Walk) (l : Location) → 0 < length path
       → (let s : Next = record { walk = w; loc = l; i = 1 } in line-passes full r path (length path) s ≡ line-on full r s (pt-at path 0) (drop 1 path))
   line-folds w l h = folds (drop 1 path) (length path) (record { walk = w; loc = l; i = 1 }) (rest-of path 1 h) (omega arith)

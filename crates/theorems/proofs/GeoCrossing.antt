@@ -2,18 +2,17 @@
 -- of the segment and of the edge.
 use mathlib.Core.Path.{_≡_, refl, sym, _∙_, ap, subst}
 use mathlib.Core.Bool.{Bool, true, false}
-use mathlib.Core.Logic.{_⊎_, inl, inr, ⊎-elim}
+use mathlib.Core.Logic.{_⊎_, inl, inr}
 use lib.Dec.{T}
-use lib.IntN.{ℤ, pos, negsuc, _+ℤ_, _-ℤ_, _*ℤ_}
+use lib.IntN.{ℤ, pos, _-ℤ_, _*ℤ_}
 use lib.Signed.{_≤ℤ_, _<ℤ_}
 use Rattle.integers.specs.Order.{zint, add-pn, sub-pn, eq→}
 use Rattle.plane.specs.declared.point.Point64.{Point64}
 use Rattle.plane.specs.declared.rect.Rect64.{Rect64}
-use Rattle.theorems.proofs.GeoPlane.{Side, onLeft, onTop, onRight, onBottom, from, to, edge, Hit, none, known, proper, depth, opposite, second, last, span, Proper}
+use Rattle.theorems.proofs.GeoPlane.{Side, onLeft, onTop, onRight, onBottom, from, to, edge, Hit, none, known, proper, depth, opposite, second, last, Proper}
 use Rattle.theorems.proofs.GeoCut.{Depths}
-use Rattle.theorems.proofs.GeoEdge.{Answer, no-hit, at-p, at-q, at-from, at-to, rising, falling, answer}
-use mathlib.Core.List.{List, [], _∷_}
-use Rattle.integers.specs.Ring.{Ex, con, v0, v1, v2, v3, v4, v5, v6, v7, _⊕_, _⊖_, _⊗_, ring}
+use Rattle.theorems.proofs.GeoAnswers.{Answer, no-hit, at-p, at-q, at-from, at-to, rising, falling, answer}
+use Rattle.integers.specs.Ring.{Ex, v0, v1, v2, v3, v4, v5, v6, v7, _⊖_, _⊗_, ring}
 use Rattle.theorems.proofs.GeoTell.{NonZero, times-nonzero}
 use Rattle.theorems.proofs.GeoSides.{near, seen, around, pts}
 use Rattle.theorems.proofs.GeoSearch.{Closed, place}
@@ -117,14 +116,8 @@ module _ (r : Rect64) (k : Proper r) where
 abbrev pub det : Point64 → Point64 → Point64 → Point64 → ℤ
 det a b c d = (b .y -ℤ a .y) *ℤ (d .x -ℤ c .x) -ℤ (d .y -ℤ c .y) *ℤ (b .x -ℤ a .x)
 
-abbrev pub numerator : Point64 → Point64 → Point64 → Point64 → ℤ
-numerator a b c d = (a .x -ℤ c .x) *ℤ (d .y -ℤ c .y) -ℤ (a .y -ℤ c .y) *ℤ (d .x -ℤ c .x)
-
 abbrev detE : Ex → Ex → Ex → Ex → Ex → Ex → Ex → Ex → Ex
 detE ax ay bx by cx cy dx dy = (by ⊖ ay) ⊗ (dx ⊖ cx) ⊖ (dy ⊖ cy) ⊗ (bx ⊖ ax)
-
-abbrev numE : Ex → Ex → Ex → Ex → Ex → Ex → Ex
-numE ax ay cx cy dx dy = (ax ⊖ cx) ⊗ (dy ⊖ cy) ⊖ (ay ⊖ cy) ⊗ (dx ⊖ cx)
 
 -- the edge's length, with the sign that its direction gives it
 abbrev pub lead : Rect64 → Side → ℤ
@@ -138,12 +131,6 @@ det-is r onLeft p q = ring (pts r p q) (detE v4 v5 v6 v7 v0 v1 v0 v3) ((v1 ⊖ v
 det-is r onTop p q = ring (pts r p q) (detE v4 v5 v6 v7 v0 v1 v2 v1) ((v2 ⊖ v0) ⊗ ((v7 ⊖ v1) ⊖ (v5 ⊖ v1))) tt
 det-is r onRight p q = ring (pts r p q) (detE v4 v5 v6 v7 v2 v1 v2 v3) ((v3 ⊖ v1) ⊗ ((v2 ⊖ v6) ⊖ (v2 ⊖ v4))) tt
 det-is r onBottom p q = ring (pts r p q) (detE v4 v5 v6 v7 v2 v3 v0 v3) ((v2 ⊖ v0) ⊗ ((v3 ⊖ v7) ⊖ (v3 ⊖ v5))) tt
-
-pub numerator-is : (r : Rect64) (s : Side) (p q : Point64) → numerator p q (from r s) (to r s) ≡ lead r s *ℤ (pos 0 -ℤ depth r s p)
-numerator-is r onLeft p q = ring (pts r p q) (numE v4 v5 v0 v1 v0 v3) ((v1 ⊖ v3) ⊗ (con (pos 0) ⊖ (v4 ⊖ v0))) tt
-numerator-is r onTop p q = ring (pts r p q) (numE v4 v5 v0 v1 v2 v1) ((v2 ⊖ v0) ⊗ (con (pos 0) ⊖ (v5 ⊖ v1))) tt
-numerator-is r onRight p q = ring (pts r p q) (numE v4 v5 v2 v1 v2 v3) ((v3 ⊖ v1) ⊗ (con (pos 0) ⊖ (v2 ⊖ v4))) tt
-numerator-is r onBottom p q = ring (pts r p q) (numE v4 v5 v2 v3 v0 v3) ((v2 ⊖ v0) ⊗ (con (pos 0) ⊖ (v3 ⊖ v5))) tt
 
 lead-non : (r : Rect64) → Proper r → (s : Side) → NonZero (lead r s)
 lead-non r k onLeft = inr (omega (zint, k .high, sub-pn (r .top) (r .bottom)))

@@ -1,14 +1,14 @@
 -- Where a segment cuts an edge, in depths alone, and what the search order makes of it: one argument for the four sides.
 -- A segment goes from p to q. On the side s the depths are a and b; on its neighbours g, h and u, v; on the opposite side o, k.
 -- Depths on opposite sides add up to the rectangle's width or height.
-use mathlib.Core.Path.{_≡_, refl, sym, _∙_, ap, subst}
-use mathlib.Core.List.{List, [], _∷_}
+use mathlib.Core.Path.{_≡_, ap}
+use mathlib.Core.List.{[], _∷_}
 use mathlib.Core.Logic.{_⊎_, inl, inr, ⊎-elim}
-use lib.IntN.{ℤ, pos, negsuc, _+ℤ_, _-ℤ_, _*ℤ_, *ℤ-comm}
+use lib.IntN.{ℤ, pos, _+ℤ_, _*ℤ_, *ℤ-comm}
 use lib.Signed.{_≤ℤ_, _<ℤ_}
-use Rattle.integers.specs.Order.{zint, add-pn, sub-pn}
+use Rattle.integers.specs.Order.{zint, add-pn}
 use Rattle.integers.specs.Tests.{lt-or-le}
-use Rattle.integers.specs.Ring.{Ex, con, v0, v1, v2, v3, v4, v5, v6, _⊕_, _⊖_, _⊗_, ⊝}
+use Rattle.integers.specs.Ring.{Ex, con, v0, v1, v2, v3, v4, v5, v6, _⊕_, _⊗_, ⊝}
 use Rattle.integers.specs.Certify.{_≼_, _≺_, _≈_, hyp, num, times, _⊞_, _⊠_, certify-le, certify-no}
 
 -- The segment comes from beyond the side (depth a) to within it (depth b), and crosses its line between the neighbours' lines.
@@ -187,58 +187,3 @@ module _ {a b o k g h u v : ℤ} (d : Depths a b o k g h u v) where
           inr (inl (corner b a h g k o bn (inner a b g h o k (d .W) (d .p-across) (d .q-across) (d .W-pos) (c .low) kp (c .one) f) (omega (zint, ap)) f (flip-le o h k g (c .one))))
       go (inr one) (inl f) =
           inr (inr (corner b a v u k o bn (inner a b u v o k (d .W) (d .p-across) (d .q-across) (d .W-pos) (c .low) kp (c .two) f) (omega (zint, ap)) f (flip-le o v k u (c .two))))
-
--- ---- the way back without a word of p, but that p and q are not both on the line of s: a segment that touches from outside
-zero-le : (a b u v : ℤ) → a ≡ pos 0 → b ≤ℤ pos 0 → pos 0 ≤ℤ u → (b *ℤ u) ≤ℤ (a *ℤ v)
-zero-le a b u v p0 p1 p2 = certify-le (a ∷ b ∷ u ∷ v ∷ []) (v0 ≈ O ∷ v1 ≼ O ∷ O ≼ v2 ∷ []) (v1 ⊗ v2) (v0 ⊗ v3) (hyp 1 ⊠ hyp 2 ⊞ times (⊝ v3) 0) tt (p0, (p1, (p2, tt)))
-
-module _ {a b o k g h u v : ℤ} (d : Depths a b o k g h u v) where
-  pub back-touch : b ≤ℤ pos 0 → a ≤ℤ pos 0 → (a ≡ pos 0 → b ≡ pos 0 → ⊥) → pos 0 ≤ℤ h → Cut g h a b o k ⊎ Cut h g b a k o → Cut b a h g v u ⊎ Cut a b g h u v
-  back-touch bn an ne hp m = go (lt-or-le b (pos 0)) m
-    where
-      -- q is the corner
-      at-q : b ≡ pos 0 → h ≡ pos 0 → Cut a b g h u v
-      at-q bz hz =
-          let al : a <ℤ pos 0 = ⊎-elim (λ x. x) (λ x. absurd (ne (omega zint) bz)) (lt-or-le a (pos 0)) in
-          let vp : pos 0 ≤ℤ v = omega (zint, add-pn h v, d .q-along, d .H-pos) in
-          record { low = an; high = omega zint; rise = omega zint; one = flip-le h a g b (zero-le′ h a g b hz bz); two = zero-le b a v u bz an vp }
-        where
-          zero-le′ : (h a g b : ℤ) → h ≡ pos 0 → b ≡ pos 0 → (h *ℤ a) ≤ℤ (g *ℤ b)
-          zero-le′ h a g b p0 p1 = certify-le (h ∷ a ∷ g ∷ b ∷ []) (v0 ≈ O ∷ v3 ≈ O ∷ []) (v0 ⊗ v1) (v2 ⊗ v3) (times v1 0 ⊞ times (⊝ v2) 1) tt (p0, (p1, tt))
-
-      -- p is the corner
-      at-p : a ≡ pos 0 → g ≡ pos 0 → b <ℤ pos 0 → Cut b a h g v u
-      at-p az gz bl =
-          let up : pos 0 ≤ℤ u = omega (zint, add-pn g u, d .p-along, d .H-pos) in
-          let gp : pos 0 ≤ℤ g = omega zint in
-          record { low = bn; high = omega zint; rise = omega zint; one = zero-le a b g h az bn gp; two = zero-le a b u v az bn up }
-
-      g-clash : Cut g h a b o k → b <ℤ pos 0 → g <ℤ pos 0 → ⊥
-      g-clash c p1 p5 =
-          certify-no (a ∷ b ∷ g ∷ h ∷ []) (v0 ≼ O ∷ v1 ≺ O ∷ v2 ≼ O ∷ O ≼ v3 ∷ (v2 ⊗ v1) ≼ (v3 ⊗ v0) ∷ v2 ≺ O ∷ []) (hyp 4 ⊞ hyp 5 ⊞ hyp 0 ⊠ hyp 3 ⊞ hyp 1 ⊠ hyp 2) tt (an, (p1, (c .low, (hp, (c .one, (p5, tt))))))
-
-      a-clash : Cut g h a b o k → a <ℤ pos 0 → pos 0 <ℤ h → ⊥
-      a-clash c p0 p3 = certify-no (a ∷ b ∷ g ∷ h ∷ []) (v0 ≺ O ∷ v1 ≼ O ∷ v2 ≼ O ∷ O ≺ v3 ∷ (v2 ⊗ v1) ≼ (v3 ⊗ v0) ∷ []) (hyp 0 ⊞ hyp 3 ⊞ hyp 4 ⊞ hyp 0 ⊠ hyp 3 ⊞ hyp 1 ⊠ hyp 2) tt (p0, (bn, (c .low, (p3, (c .one, tt)))))
-
-      b-clash : h ≡ pos 0 → Cut h g b a k o → pos 0 <ℤ g → b <ℤ pos 0 → ⊥
-      b-clash p2 c p3 p5 = certify-no (a ∷ b ∷ g ∷ h ∷ []) (v3 ≈ O ∷ O ≺ v2 ∷ (v3 ⊗ v0) ≼ (v2 ⊗ v1) ∷ v1 ≺ O ∷ []) (hyp 1 ⊞ hyp 2 ⊞ hyp 3 ⊞ hyp 1 ⊠ hyp 3 ⊞ times (⊝ v0) 0) tt (p2, (p3, (c .one, (p5, tt))))
-
-      go : (b <ℤ pos 0) ⊎ (pos 0 ≤ℤ b) → Cut g h a b o k ⊎ Cut h g b a k o → Cut b a h g v u ⊎ Cut a b g h u v
-      go (inl bl) (inl c) =
-          let gz : g ≡ pos 0 = ⊎-elim (λ x. absurd (g-clash c bl x)) (λ x. omega (zint, c .low)) (lt-or-le g (pos 0)) in
-          let hl : pos 0 <ℤ h = omega (zint, c .rise) in
-          let az : a ≡ pos 0 = ⊎-elim (λ x. absurd (a-clash c x hl)) (λ x. omega zint) (lt-or-le a (pos 0)) in
-          inl (at-p az gz bl)
-      go (inr bp) (inl c) =
-          let bz : b ≡ pos 0 = omega zint in
-          let al : a <ℤ pos 0 = ⊎-elim (λ x. x) (λ x. absurd (ne (omega zint) bz)) (lt-or-le a (pos 0)) in
-          let hz : h ≡ pos 0 = ⊎-elim (λ x. absurd (a-clash c al x)) (λ x. omega zint) (lt-or-le (pos 0) h) in
-          inr (at-q bz hz)
-      go (inl bl) (inr c) =
-          let hz : h ≡ pos 0 = omega (zint, c .low) in
-          let gl : pos 0 <ℤ g = omega (zint, c .rise) in
-          absurd (b-clash hz c gl bl)
-      go (inr bp) (inr c) =
-          let hz : h ≡ pos 0 = omega (zint, c .low) in
-          let bz : b ≡ pos 0 = omega zint in
-          inr (at-q bz hz)

@@ -10,8 +10,8 @@ use Rattle.integers.specs.Ring.{Ex, v0, v1, v2, v3, v4, v5, v6, _⊕_, _⊖_, _
 use Rattle.integers.specs.Certify.{_≼_, hyp, certify-le}
 use Rattle.plane.specs.declared.point.Point64.{Point64}
 use Rattle.plane.specs.declared.rect.Rect64.{Rect64}
-use Rattle.reference.specs.Demand.{ExactCrossing}
-use Rattle.theorems.proofs.Crossings.{Crossed}
+use Rattle.theorems.specs.Demand.{ExactCrossing}
+use Rattle.theorems.proofs.CrossingSigns.{Crossed}
 use Rattle.theorems.proofs.GeoPlane.{Side, onLeft, onTop, onRight, onBottom, loc}
 use Rattle.theorems.proofs.GeoCut.{Cut}
 use Rattle.theorems.proofs.GeoSides.{Meets}

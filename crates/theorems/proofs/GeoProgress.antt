@@ -1,25 +1,22 @@
 -- The regions of the locations, where `get_next_location` stops, and the one case of G2.
 use mathlib.Core.Path.{_≡_, refl, sym, _∙_, ap, subst}
-use mathlib.Core.Bool.{Bool, true, false, cond, not, _&&_, _||_}
-use mathlib.Core.List.{List, [], _∷_}
-use mathlib.Core.Logic.{_⊎_, inl, inr, ⊎-elim}
-use Prim.Native.Nat.{ℕ, zero, suc, _+_, _≤_, _<_}
-use native.Mathlib.Omega.{arith}
-use lib.ListN.{length}
-use lib.IntN.{ℤ, pos, negsuc, _+ℤ_, _-ℤ_, _*ℤ_}
+use mathlib.Core.Bool.{Bool, true, false, cond, _&&_, _||_}
+use mathlib.Core.Logic.{_⊎_, inl, inr}
+use lib.IntN.{ℤ, pos}
 use lib.Signed.{ltZ, leZ, _≤ℤ_, _<ℤ_}
 use Rattle.integers.specs.Order.{zint, add-pn, sub-pn, eq→}
-use Rattle.integers.specs.Tests.{lt-or-le, eqZ, eq-eqZ, lt-ltZ, le-ltZ, le-leZ, lt-leZ, ltZ-true, ltZ-false, leZ-true, leZ-false, eqZ-true}
+use Rattle.integers.specs.Tests.{lt-or-le, eqZ, eq-eqZ, lt-ltZ, le-ltZ, le-leZ, lt-leZ, ltZ-true, ltZ-false, leZ-true, eqZ-true}
 use Rattle.plane.specs.declared.point.Point64.{Point64}
 use Rattle.plane.specs.declared.rect.Rect64.{Rect64}
 use Rattle.plane.specs.declared.location.Location.{Location}
 use Rattle.plane.specs.declared.location.Location.the-variants.{Left, Top, Right, Bottom, Inside}
-use Rattle.theorems.proofs.GeoPlane.{samePt, Side, onLeft, onTop, onRight, onBottom, loc, edge, Hit, known, known?, Found, nothing, found, search, depth, opposite, second, last, span, Proper}
+use Rattle.theorems.proofs.GeoPlane.{samePt, Side, onLeft, onTop, onRight, onBottom, loc, edge, Hit, known?, Found, nothing, found, search, depth, opposite, second, last, Proper}
 use Rattle.theorems.proofs.GeoCut.{Depths}
 use Rattle.theorems.proofs.GeoSides.{Meets, around, twin-last}
-use Rattle.theorems.proofs.GeoEdge.{Twin}
-use Rattle.theorems.proofs.GeoSearch.{Finds, FindsNone, Seek, own, next, rest, none, seek, found-or, Inner, Closed, Beyond, Outside, inner-or, Enters, enter, leave, Along, Stays, stay, place, back}
+use Rattle.theorems.proofs.GeoAnswers.{Twin}
+use Rattle.theorems.proofs.GeoSearch.{Finds, Seek, own, next, rest, none, seek, Inner, Closed, Beyond, Outside, Along, Stays, stay, place}
 use Rattle.theorems.proofs.GeoWalk.{Step, skip, stop, step, located, on-edge, on-left, on-right, on-top, on-bottom, inside?, Calc, point}
+use Rattle.theorems.proofs.Tests.{never}
 
 -- ---- the region of a location: what get_next_location goes past
 abbrev pub In : Rect64 → Location → Point64 → Type 0
@@ -40,12 +37,6 @@ side-in r onLeft p b = b
 side-in r onTop p b = b
 side-in r onRight p b = b
 side-in r onBottom p b = b
-
-pub not-inside : (s : Side) → inside? (loc s) ≡ false
-not-inside onLeft = refl
-not-inside onTop = refl
-not-inside onRight = refl
-not-inside onBottom = refl
 
 -- ---- where get_next_location stops
 pub data Stop (r : Rect64) (p : Point64) : Location → Location → Type 0 where
@@ -176,9 +167,6 @@ le-of a b e = ltZ-false e
 
 and-all : {a b c : Bool} → a ≡ true → b ≡ true → c ≡ true → ((a && b) && c) ≡ true
 and-all e f g = λ i. (e i && f i) && g i
-
-pub never : {b : Bool} → b ≡ true → b ≡ false → ⊥
-never e f = Rattle.theorems.proofs.GeoTell.no-of {P = Unit {0}} (inl (e, tt)) f tt
 
 pub located-in : (r : Rect64) (p : Point64) → In r (located r p) p × (Outside r p → inside? (located r p) ≡ false)
 located-in r p =

@@ -1,17 +1,17 @@
 -- `get_intersection` on a proper rectangle: entering (G1), leaving, staying on its side (G2), the way back (G3).
 use mathlib.Core.Path.{_≡_, refl, sym, _∙_, ap, subst}
-use mathlib.Core.Bool.{Bool, true, false, cond, not, _&&_, _||_}
+use mathlib.Core.Bool.{Bool, cond, _&&_}
 use mathlib.Core.Logic.{_⊎_, inl, inr, ⊎-elim}
-use lib.IntN.{ℤ, pos, negsuc, _+ℤ_, _-ℤ_, _*ℤ_}
-use lib.Signed.{ltZ, leZ, _≤ℤ_, _<ℤ_}
-use Rattle.integers.specs.Order.{zint, add-pn, eq→}
+use lib.IntN.{pos}
+use lib.Signed.{ltZ, _≤ℤ_, _<ℤ_}
+use Rattle.integers.specs.Order.{zint, add-pn}
 use Rattle.integers.specs.Tests.{lt-or-le, lt-ltZ, le-ltZ, ltZ-sub′}
 use Rattle.plane.specs.declared.point.Point64.{Point64}
 use Rattle.plane.specs.declared.rect.Rect64.{Rect64}
 use Rattle.plane.specs.declared.location.Location.{Location}
-use Rattle.plane.specs.declared.location.Location.the-variants.{Left, Top, Right, Bottom, Inside}
-use Rattle.theorems.proofs.GeoPlane.{Side, onLeft, onTop, onRight, onBottom, loc, edge, met, Hit, Found, nothing, found, try, search, depth, opposite, second, last, Proper}
-use Rattle.theorems.proofs.GeoCut.{Cut, Depths, enters, leaves, keeps, back-beside, back-across, back-touch}
+use Rattle.plane.specs.declared.location.Location.the-variants.{Inside}
+use Rattle.theorems.proofs.GeoPlane.{Side, onLeft, onTop, onRight, onBottom, loc, edge, met, Found, nothing, found, search, depth, opposite, second, last, Proper}
+use Rattle.theorems.proofs.GeoCut.{Depths, enters, leaves, keeps, back-beside, back-across}
 use Rattle.theorems.proofs.GeoTell.{Decides}
 use Rattle.theorems.proofs.GeoSides.{CutAt, MeetsBy, Meets, met-decides, around, by-second, second-by, by-last, last-by, opposite-by}
 
@@ -115,22 +115,6 @@ Beyond r s p = depth r s p ≤ℤ pos 0
 pub record Outside (r : Rect64) (p : Point64) : Type 0 where
   pub side : Side
   pub beyond : Beyond r side p
-
-pub inner-or : (r : Rect64) (p : Point64) → Inner r p ⊎ Outside r p
-inner-or r p = go (lt-or-le (pos 0) (depth r onLeft p)) (lt-or-le (pos 0) (depth r onTop p)) (lt-or-le (pos 0) (depth r onRight p)) (lt-or-le (pos 0) (depth r onBottom p))
-  where
-    all : pos 0 <ℤ depth r onLeft p → pos 0 <ℤ depth r onTop p → pos 0 <ℤ depth r onRight p → pos 0 <ℤ depth r onBottom p → Inner r p
-    all a b c d onLeft = a
-    all a b c d onTop = b
-    all a b c d onRight = c
-    all a b c d onBottom = d
-
-    go : (pos 0 <ℤ depth r onLeft p) ⊎ Beyond r onLeft p → (pos 0 <ℤ depth r onTop p) ⊎ Beyond r onTop p → (pos 0 <ℤ depth r onRight p) ⊎ Beyond r onRight p → (pos 0 <ℤ depth r onBottom p) ⊎ Beyond r onBottom p → Inner r p ⊎ Outside r p
-    go (inl a) (inl b) (inl c) (inl d) = inl (all a b c d)
-    go (inr a) b c d = inr (record { side = onLeft; beyond = a })
-    go (inl a) (inr b) c d = inr (record { side = onTop; beyond = b })
-    go (inl a) (inl b) (inr c) d = inr (record { side = onRight; beyond = c })
-    go (inl a) (inl b) (inl c) (inr d) = inr (record { side = onBottom; beyond = d })
 
 -- ---- G1, entering: from p strictly inside toward q, which is not, a side is found, and q lies on or beyond it
 pub record Enters (r : Rect64) (p q : Point64) : Type 0 where
@@ -269,36 +253,3 @@ back r k p q s t b i m = go (found-or r k q p s)
     go : Finds r q p (loc s) ⊎ FindsNone r q p s → Finds r q p (loc s)
     go (inl f) = f
     go (inr f) = absurd (which f (place s t))
-
--- the same with the weakest hypothesis: p and q do not both lie on the line of s
-pub back-sharp : (r : Rect64) → Proper r → (p q : Point64) (s t : Side) → Beyond r s q → (depth r s p ≡ pos 0 → depth r s q ≡ pos 0 → ⊥) → Meets r t p q → Finds r q p (loc s)
-back-sharp r k p q s t b ne m = ⊎-elim (λ i. back r k p q s t b i m) (λ a. go a (found-or r k q p s)) (lt-or-le (pos 0) (depth r s p))
-  where
-    turn : {A B : Type 0} → A ⊎ B → B ⊎ A
-    turn (inl a) = inr a
-    turn (inr b) = inl b
-
-    beside : Beyond r s p → FindsNone r q p s → MeetsBy r (second s) s p q → ⊥
-    beside a f m = ⊎-elim (λ n. f .next n (by-second r s q p (turn m))) (λ n. f .own (back-touch (around r k s p q) b a ne n m)) (lt-or-le (depth r (second s) q) (pos 0))
-
-    across : Beyond r s p → MeetsBy r (opposite s) (second s) p q → ⊥
-    across a (inl c) = p-away (around r k s p q) a (c .low)
-      where
-        p-away : Depths (depth r s p) (depth r s q) (depth r (opposite s) p) (depth r (opposite s) q) (depth r (second s) p) (depth r (second s) q) (depth r (last s) p) (depth r (last s) q)
-            → depth r s p ≤ℤ pos 0 → depth r (opposite s) p ≤ℤ pos 0 → ⊥
-        p-away d x y = omega (zint, d .p-across, d .W-pos, add-pn (depth r s p) (depth r (opposite s) p))
-    across a (inr c) = q-away (around r k s p q) b (c .low)
-      where
-        q-away : Depths (depth r s p) (depth r s q) (depth r (opposite s) p) (depth r (opposite s) q) (depth r (second s) p) (depth r (second s) q) (depth r (last s) p) (depth r (last s) q)
-            → depth r s q ≤ℤ pos 0 → depth r (opposite s) q ≤ℤ pos 0 → ⊥
-        q-away d x y = omega (zint, d .q-across, d .W-pos, add-pn (depth r s q) (depth r (opposite s) q))
-
-    which : Beyond r s p → FindsNone r q p s → (t ≡ s) ⊎ ((t ≡ second s) ⊎ ((t ≡ last s) ⊎ (t ≡ opposite s))) → ⊥
-    which a f (inl e) = f .own (turn (subst (λ (t : Side). Meets r t p q) e m))
-    which a f (inr (inl e)) = beside a f (second-by r s p q (subst (λ (t : Side). Meets r t p q) e m))
-    which a f (inr (inr (inl e))) = f .rest (turn (subst (λ (t : Side). Meets r t p q) e m))
-    which a f (inr (inr (inr e))) = across a (opposite-by r s p q (subst (λ (t : Side). Meets r t p q) e m))
-
-    go : Beyond r s p → Finds r q p (loc s) ⊎ FindsNone r q p s → Finds r q p (loc s)
-    go a (inl f) = f
-    go a (inr f) = absurd (which a f (place s t))

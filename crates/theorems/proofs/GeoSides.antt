@@ -1,19 +1,20 @@
 -- The four sides: what their edges show (`Seen`), the depths of two points around a side (`Depths`), and so `met` decides `Meets`.
-use mathlib.Core.Path.{_≡_, refl, sym, _∙_, ap, subst}
-use mathlib.Core.Bool.{Bool, true, false, cond, not, _&&_, _||_}
+use mathlib.Core.Path.{_≡_, refl}
+use mathlib.Core.Bool.{Bool, true, false, cond, _&&_, _||_}
 use mathlib.Core.List.{List, [], _∷_}
-use mathlib.Core.Logic.{_⊎_, inl, inr, ⊎-elim}
-use lib.IntN.{ℤ, pos, negsuc, negℤ, _+ℤ_, _-ℤ_, _*ℤ_}
-use lib.Signed.{ltZ, leZ, _≤ℤ_, _<ℤ_}
-use Rattle.integers.specs.Order.{zint, add-pn, sub-pn, eq→}
+use mathlib.Core.Logic.{_⊎_, inl, inr}
+use lib.IntN.{ℤ, pos, negsuc, _+ℤ_, _-ℤ_}
+use lib.Signed.{ltZ, _≤ℤ_, _<ℤ_}
+use Rattle.integers.specs.Order.{zint, sub-pn, eq→}
 use Rattle.integers.specs.Tests.{eqZ, eq-eqZ, ne-eqZ}
-use Rattle.integers.specs.Ring.{Ex, con, v0, v1, v2, v3, v4, v5, v6, v7, _⊕_, _⊖_, _⊗_, ⊝, ring}
+use Rattle.integers.specs.Ring.{Ex, con, v0, v1, v2, v3, v4, v5, v6, v7, _⊕_, _⊖_, _⊗_, ring}
 use Rattle.plane.specs.declared.point.Point64.{Point64}
 use Rattle.plane.specs.declared.rect.Rect64.{Rect64}
-use Rattle.theorems.proofs.GeoPlane.{pt, same, on, hit?, segment, Side, onLeft, onTop, onRight, onBottom, from, to, edge, met, depth, opposite, second, last, span, Proper}
+use Rattle.theorems.proofs.GeoPlane.{pt, same, on, Side, onLeft, onTop, onRight, onBottom, from, to, edge, met, depth, opposite, second, last, span, Proper}
 use Rattle.theorems.proofs.GeoCut.{Cut, Depths, swap}
-use Rattle.theorems.proofs.GeoTell.{Decides, NonZero, ranged, ranged-up, ranged-down, decided}
-use Rattle.theorems.proofs.GeoEdge.{Seen, segment-cuts, Twin, twins}
+use Rattle.theorems.proofs.GeoTell.{Decides, ranged, ranged-up, ranged-down, decided}
+use Rattle.theorems.proofs.GeoEdge.{Seen, segment-cuts}
+use Rattle.theorems.proofs.GeoAnswers.{Twin, twins}
 
 -- ---- a point on the line of an edge: `on` decides whether it is between the ends
 upright-on : (p : Point64) (c a b : ℤ) → a <ℤ b → p .x ≡ c → Decides (on p (pt c a) (pt c b)) ((pos 0 ≤ℤ (p .y -ℤ a)) × (pos 0 ≤ℤ (b -ℤ p .y)))

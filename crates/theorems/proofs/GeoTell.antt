@@ -1,15 +1,15 @@
 -- Tests and what they decide: signs of multiples, a number between two others, the two tests of `on`.
 use mathlib.Core.Path.{_≡_, refl, sym, _∙_, ap, subst}
-use mathlib.Core.Bool.{Bool, true, false, cond, not, _&&_, _||_}
-use mathlib.Core.List.{List, [], _∷_}
-use mathlib.Core.Logic.{_⊎_, inl, inr, ⊎-elim}
-use lib.IntN.{ℤ, pos, negsuc, negℤ, _+ℤ_, _-ℤ_, _*ℤ_, *ℤ-zero}
-use lib.Signed.{ltZ, leZ, _≤ℤ_, _<ℤ_}
+use mathlib.Core.Bool.{Bool, true, false, cond, _||_}
+use mathlib.Core.List.{[], _∷_}
+use mathlib.Core.Logic.{_⊎_, inl, inr}
 use lib.Dec.{T}
-use Rattle.integers.specs.Order.{zint, add-pn, sub-pn, eq→}
+use lib.IntN.{ℤ, pos, negsuc, _+ℤ_, _-ℤ_, _*ℤ_, *ℤ-zero}
+use lib.Signed.{ltZ, _≤ℤ_, _<ℤ_}
+use Rattle.integers.specs.Order.{zint, sub-pn, eq→}
 use Rattle.integers.specs.Tests.{tri, lt-or-le, eqZ, lt-ltZ, le-ltZ, eq-eqZ, ne-eqZ}
 use Rattle.integers.specs.Sign.{pos-pos, pos-neg, neg-pos, neg-neg}
-use Rattle.integers.specs.Ring.{Ex, con, v0, v1, v2, v3, _⊕_, _⊖_, _⊗_, ⊝}
+use Rattle.integers.specs.Ring.{Ex, con, v0, v1, v2, v3, _⊕_, _⊗_}
 use Rattle.integers.specs.Certify.{_≼_, _≺_, _≈_, hyp, times, _⊞_, _⊠_, certify-no}
 use Rattle.theorems.proofs.GeoPlane.{sign, zero?, up?, same}
 
@@ -20,10 +20,6 @@ Decides b P = ((b ≡ true) × P) ⊎ ((b ≡ false) × (P → ⊥))
 pub yes-of : {b : Bool} {P : Type 0} → Decides b P → b ≡ true → P
 yes-of (inl h) e = h .1
 yes-of (inr h) e = absurd (subst T (sym e ∙ h .0) tt)
-
-pub no-of : {b : Bool} {P : Type 0} → Decides b P → b ≡ false → P → ⊥
-no-of (inl h) e = absurd (subst T (sym (h .0) ∙ e) tt)
-no-of (inr h) e = h .1
 
 pub is-yes : {b : Bool} {P : Type 0} → Decides b P → P → b ≡ true
 is-yes (inl h) p = h .0

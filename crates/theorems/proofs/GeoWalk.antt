@@ -1,14 +1,13 @@
 -- `get_next_location` at one point, `get_location`, and the point of a hit, in the words of the geometry.
-use mathlib.Core.Path.{_≡_}
-use mathlib.Core.Bool.{Bool, true, false, cond, not, _&&_, _||_}
-use lib.IntN.{ℤ, pos}
+use mathlib.Core.Bool.{Bool, true, false, cond, _&&_, _||_}
+use lib.IntN.{pos}
 use lib.Signed.{ltZ, leZ}
 use Rattle.integers.specs.Tests.{eqZ}
 use Rattle.plane.specs.declared.point.Point64.{Point64}
 use Rattle.plane.specs.declared.rect.Rect64.{Rect64}
 use Rattle.plane.specs.declared.location.Location.{Location}
 use Rattle.plane.specs.declared.location.Location.the-variants.{Left, Top, Right, Bottom, Inside}
-use Rattle.theorems.proofs.GeoPlane.{pt, samePt, Side, loc, from, to, Hit, none, known, proper, Found, nothing, found, search}
+use Rattle.theorems.proofs.GeoPlane.{pt, Side, from, to, Hit, none, known, proper}
 
 -- ---- get_next_location at one point: it goes past the point, or stops there with a new location
 pub data Step : Type 0 where

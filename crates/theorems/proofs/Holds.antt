@@ -1,8 +1,8 @@
 -- What holds of an answer unless it is a refusal, and of all points of a list.
-use mathlib.Core.Path.{_≡_, refl}
+use mathlib.Core.Path.{_≡_, refl, subst}
 use mathlib.Core.Bool.{Bool, true, false, cond}
 use mathlib.Core.List.{List, [], _∷_, _++_}
-use Prim.Native.Nat.{ℕ, zero, suc, _+_, _<_}
+use Prim.Native.Nat.{ℕ, zero, suc, _<_}
 use native.Mathlib.Nat.{not-suc-le-zero, le-of-suc-le-suc}
 use lib.ListN.{length, getD, drop}
 use Rattle.plane.specs.declared.point.Point64.{Point64}
@@ -10,6 +10,7 @@ use Rattle.plane.specs.declared.location.Location.{Location}
 use Rattle.plane.specs.declared.crossing.Search.{Search}
 use Rattle.plane.specs.declared.crossing.Search.the-variants.{Missed, Found}
 use Rattle.plane.specs.Basics.{Try, refuse, ok, _>>=_}
+use native.Mathlib.Omega.{arith}
 
 pub data Holds {A : Type 0} (Q : A → Type 0) : Try A → Type 0 where
   refused : {n : ℕ} → Holds Q (refuse n)
@@ -27,6 +28,18 @@ pub by-search : {A : Type 0} (Q : A → Type 0) (m : Search) (x : Try A) (f : Po
     → Holds Q (elim m [ Missed ↦ x | Found q t ↦ f q t ])
 by-search Q Missed x f h k = h refl
 by-search Q (Found q t) x f h k = k q t refl
+
+pub anything : {A : Type 0} (m : Try A) → Holds (λ (a : A). Unit {0}) m
+anything (refuse n) = refused
+anything (ok a) = held tt
+
+pub weaker : {A : Type 0} (Q R : A → Type 0) (m : Try A) → Holds Q m → ((a : A) → Q a → R a) → Holds R m
+weaker Q R m refused f = refused
+weaker Q R m (held {a} h) f = held (f a h)
+
+pub holds-ok : {A : Type 0} {Q : A → Type 0} (m : Try A) (x : A) → Holds Q m → m ≡ ok x → Q x
+holds-ok {A} {Q} m x (held {a} h) e = let q : a ≡ x = cc in subst Q q h
+holds-ok m x refused e = let z : _≡_ {A = ℕ} 0 1 = cc in absurd (omega arith)
 
 -- ---- all points of a list
 abbrev pub All : (Point64 → Type 0) → List Point64 → Type 0

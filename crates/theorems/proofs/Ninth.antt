@@ -3,38 +3,39 @@ use mathlib.Core.Path.{_≡_, refl, sym, _∙_, ap, subst}
 use mathlib.Core.Bool.{Bool, true, false, cond, not, _&&_, _||_}
 use mathlib.Core.Logic.{_⊎_, inl, inr}
 use mathlib.Core.List.{List, [], _∷_}
-use Prim.Native.Nat.{ℕ, zero, suc, _+_, _-_, _*_, _<_, _≤_}
+use Prim.Native.Nat.{ℕ, zero, suc, _+_, _-_, _<_}
 use native.Mathlib.Omega.{arith}
-use lib.ListN.{length, getD}
-use lib.Dec.{T, leb, ltb, eqb}
-use lib.IntN.{ℤ, pos}
-use lib.Signed.{leZ, ltZ}
-use Rattle.integers.specs.Tests.{eqZ}
+use lib.ListN.{length}
+use lib.Dec.{T, ltb}
+use lib.IntN.{ℤ}
+use lib.Signed.{ltZ}
 use Rattle.plane.specs.declared.point.Point64.{Point64}
 use Rattle.plane.specs.Limit.{Limited, rect-in-limit, all-in-limit}
 use Rattle.plane.specs.declared.rect.Rect64.{Rect64}
 use Rattle.plane.specs.declared.location.Spot.{Spot}
 use Rattle.plane.specs.declared.location.Location.{Location}
-use Rattle.plane.specs.declared.location.Location.the-variants.{Left, Top, Right, Bottom, Inside}
+use Rattle.plane.specs.declared.location.Location.the-variants.{Left, Inside}
 use Rattle.plane.specs.declared.crossing.Search.{Search}
 use Rattle.plane.specs.declared.crossing.Search.the-variants.{Missed, Found}
 use Rattle.plane.specs.Basics.{if_then_else_, is-nil, Try, refuse, ok, _>>=_}
 use Rattle.plane.specs.Points.{origin, pt-at, same-point, points-of}
-use Rattle.plane.specs.Locations.{same-location, side, get-adjacent-location, heading-clockwise, start-locs-are-clockwise, is-inside}
+use Rattle.plane.specs.Locations.{same-location, side, get-adjacent-location, heading-clockwise, is-inside}
 use Rattle.plane.specs.Rectangle.{as-path, mid-point, is-empty, get-location, get-bounds-path, contains-point, corner}
 use Rattle.plane.specs.Intersection.{get-intersection}
 use Rattle.plane.specs.Signs.{is-clockwise-dir}
 use Rattle.plane.specs.Polygon.{path1-contains-path2}
-use Rattle.reference.specs.Walk.{Walk, nothing-yet, unlimited, add, add-all, push-start-loc, add-corner-prev-curr, add-corner-loc, add-corners, push-start-locs, State, Pass, Walked, remain-outside, enter, pass-to, pass-through, leave, cross-boundary, pt-before, passes, last-off, add-round, retrace, close-outline, surround, after-while, walk-from, walk-closed}
-use Rattle.theorems.proofs.Holds.{Holds, refused, held, All, all-at}
+use Rattle.reference.specs.Walk.{Walk, nothing-yet, unlimited, add, add-all, push-start-loc, add-corner-prev-curr, add-corner-loc, add-corners, push-start-locs, State, Pass, Walked, remain-outside, enter, pass-to, pass-through, leave, cross-boundary, passes, last-off, add-round, retrace, close-outline, surround, after-while, walk-from, walk-closed}
+use Rattle.theorems.proofs.Holds.{Holds, held, All, all-at}
 use Rattle.theorems.proofs.Demand.{LimitedRect, rect-limited, points-limited, not-empty-order}
-use Rattle.theorems.proofs.GeoPlane.{Side, onLeft, onTop, onRight, onBottom, loc, edge, Found as Finding, nothing, found, search, Proper}
+use Rattle.theorems.proofs.GeoPlane.{loc, Found as Finding, nothing, found, search, Proper}
 use Rattle.theorems.proofs.GeoSearch.{Finds, FindsNone, found-or, enter as enter-geo, back}
-use Rattle.theorems.proofs.GeoWalk.{Step, skip, stop, step, located, on-edge, on-left, on-right, on-top, on-bottom}
-use Rattle.theorems.proofs.GeoProgress.{In, side-in, Stop, enters, passes as crosses, leaves, Steps, goes, halts, steps, never, edge-closed}
+use Rattle.theorems.proofs.GeoWalk.{on-edge, on-left, on-right, on-top, on-bottom}
+use Rattle.theorems.proofs.GeoProgress.{In, side-in, Stop, enters, passes as crosses, leaves, Steps, goes, halts, steps, edge-closed}
 use Rattle.theorems.proofs.Bridge.{told, search-told}
 use Rattle.theorems.proofs.Passes.{stop-in, Stays, cross-stays, sides-out, get-location-in}
-use Rattle.theorems.proofs.Fold.{go-past, at-point, walk-on, next-location, next-is, after, differ, pass-at, turned-past, at-stopped, at-gone, walk-folds}
+use Rattle.theorems.proofs.FoldPoints.{go-past, at-point, walk-on, next-is, after, differ}
+use Rattle.theorems.proofs.Fold.{pass-at, turned-past, at-stopped, at-gone, walk-folds}
+use Rattle.theorems.proofs.Tests.{never}
 
 -- ---- refused for want of room, or not at all; `full` says of which length
 pub data Room (full : ℕ → Bool) {A : Type 0} (Q : A → Type 0) : Try A → Type 0 where

@@ -1,34 +1,33 @@
 -- Refusal 9 never comes for lines either.
 use mathlib.Core.Path.{_≡_, refl, sym, _∙_, ap, subst}
-use mathlib.Core.Bool.{Bool, true, false, cond, not, _&&_, _||_}
+use mathlib.Core.Bool.{Bool, true, false, not}
 use mathlib.Core.List.{List, [], _∷_}
-use Prim.Native.Nat.{ℕ, zero, suc, _+_, _-_, _<_, _≤_}
+use Prim.Native.Nat.{ℕ, _<_, _≤_}
 use native.Mathlib.Omega.{arith}
-use lib.ListN.{length, getD, drop}
+use lib.ListN.{length, drop}
 use lib.Dec.{T, ltb, nltb→le}
 use lib.IntN.{ℤ}
-use Rattle.integers.specs.Tests.{T-of, T-not-of}
+use Rattle.integers.specs.Tests.{T-not-of}
 use Rattle.plane.specs.declared.point.Point64.{Point64}
 use Rattle.plane.specs.Limit.{Limited, rect-in-limit, all-in-limit}
 use Rattle.plane.specs.declared.rect.Rect64.{Rect64}
 use Rattle.plane.specs.declared.location.Location.{Location}
-use Rattle.plane.specs.declared.location.Location.the-variants.{Left, Top, Right, Bottom, Inside}
+use Rattle.plane.specs.declared.location.Location.the-variants.{Inside}
 use Rattle.plane.specs.declared.crossing.Search.{Search}
 use Rattle.plane.specs.declared.crossing.Search.the-variants.{Missed, Found}
-use Rattle.plane.specs.Basics.{if_then_else_, Try, refuse, ok, _>>=_}
+use Rattle.plane.specs.Basics.{if_then_else_, Try, refuse, ok}
 use Rattle.plane.specs.Points.{origin, pt-at, points-of}
 use Rattle.plane.specs.Locations.{same-location, is-inside}
 use Rattle.plane.specs.Rectangle.{is-empty, get-location}
 use Rattle.plane.specs.Intersection.{get-intersection}
-use Rattle.reference.specs.Walk.{Walk, nothing-yet, add, add-all, Next}
+use Rattle.reference.specs.Walk.{Walk, nothing-yet, add, Next}
 use Rattle.reference.specs.Lines.{line-through, line-cross, line-passes, first-off-edge, line-walk-from, walk-open}
-use Rattle.theorems.proofs.Holds.{Holds, All, all-at, all-drop}
+use Rattle.theorems.proofs.Holds.{All, all-at, all-drop}
 use Rattle.theorems.proofs.Demand.{LimitedRect, rect-limited, points-limited, not-empty-order}
 use Rattle.theorems.proofs.GeoPlane.{Proper}
-use Rattle.theorems.proofs.GeoWalk.{Step, skip, stop, step}
 use Rattle.theorems.proofs.GeoProgress.{In, Stop, Steps, goes, halts, steps, edge-closed}
 use Rattle.theorems.proofs.Passes.{stop-in, get-location-in}
-use Rattle.theorems.proofs.Fold.{next-is, after, differ}
+use Rattle.theorems.proofs.FoldPoints.{next-is, after, differ}
 use Rattle.theorems.proofs.FoldLines.{line-past, line-at, line-on, StaysAt, cross-stays, turned-past, at-stopped, at-gone, line-folds}
 use Rattle.theorems.proofs.Ninth.{Room, want, fine, Any, bind8, either8, search8, both, weaken, add8, add-all8, back-found, on-edge-of}
 

@@ -1,28 +1,20 @@
 -- What the tests of points against a rectangle say: a point on an edge, and each point of a path whose bounds are contained, is beyond no side.
-use mathlib.Core.Path.{_≡_, refl, sym, ap, _∙_, subst}
-use mathlib.Core.Bool.{Bool, true, false, cond, not, _&&_, _||_}
+use mathlib.Core.Path.{_≡_, refl, sym}
+use mathlib.Core.Bool.{Bool, true, false, cond, _&&_}
 use mathlib.Core.List.{List, [], _∷_}
-use Prim.Native.Nat.{ℕ, _+_, _<_, _≤_}
+use Prim.Native.Nat.{ℕ}
 use native.Mathlib.Omega.{arith}
-use lib.IntN.{ℤ, pos, negsuc}
+use lib.IntN.{ℤ}
 use lib.Signed.{ltZ, leZ, _≤ℤ_, _<ℤ_}
 use Rattle.integers.specs.Order.{zint}
-use Rattle.integers.specs.Tests.{eqZ, ztest, le-ltZ, ltZ-false, leZ-false, leZ-true}
+use Rattle.integers.specs.Tests.{eqZ, ztest, le-ltZ, leZ-false}
 use Rattle.plane.specs.declared.point.Point64.{Point64}
 use Rattle.plane.specs.declared.rect.Rect64.{Rect64}
 use Rattle.plane.specs.declared.location.Spot.{Spot}
-use Rattle.plane.specs.declared.location.Location.the-variants.{Left, Top, Right, Bottom, Inside}
-use Rattle.plane.specs.Rectangle.{no-bounds, get-location, is-empty, contains-rect, grown, bounds-from, get-bounds-path, beyond}
+use Rattle.plane.specs.Rectangle.{no-bounds, get-location, is-empty, contains-rect, grown, bounds-from, get-bounds-path}
 use Rattle.theorems.proofs.Holds.{All}
 use Rattle.theorems.proofs.Points.{WithinSides}
-
-pub both : (a b : Bool) → (a && b) ≡ true → (a ≡ true) × (b ≡ true)
-both true b e = (refl, e)
-both false b e = let z : _≡_ {A = ℕ} 0 1 = cc in absurd (omega arith)
-
-pub neither : (a b : Bool) → (a || b) ≡ false → (a ≡ false) × (b ≡ false)
-neither false b e = (refl, e)
-neither true b e = let z : _≡_ {A = ℕ} 0 1 = cc in absurd (omega arith)
+use Rattle.theorems.proofs.Tests.{neither}
 
 -- one case of a chain of tests
 chain : {W : Type 0} (b : Bool) (s t : Spot) → (b ≡ true → s .off ≡ false → W) → (t .off ≡ false → W) → (cond b s t) .off ≡ false → W
@@ -113,7 +105,7 @@ all-in s (p ∷ path) =
     let e = min-le (p .x) (s .left) .0 in let f = min-le (p .y) (s .top) .0 in let g = max-le (s .right) (p .x) .0 in let h = max-le (s .bottom) (p .y) .0 in
     ((omega zint, omega zint, omega zint, omega zint), all-in (grown s p) path)
 
-four : (a b c d : Bool) → (a && b && c && d) ≡ true → (a ≡ true) × (b ≡ true) × (c ≡ true) × (d ≡ true)
+pub four : (a b c d : Bool) → (a && b && c && d) ≡ true → (a ≡ true) × (b ≡ true) × (c ≡ true) × (d ≡ true)
 four true true true true e = (refl, refl, refl, refl)
 four true true true false e = never (sym e)
 four true true false d e = never (sym e)
@@ -131,3 +123,11 @@ inside r t (p ∷ ps) e h =
 pub contained : (r : Rect64) (path : List Point64) → contains-rect r (get-bounds-path path) ≡ true → All (WithinSides r) path
 unfolding get-bounds-path
 contained r path e = inside r (bounds-from no-bounds path) path e (all-in no-bounds path)
+
+-- the bounds of a path with a point are the right way round
+pub bounds-order : (p : Point64) (path : List Point64) → let b = get-bounds-path (p ∷ path) in (b .left ≤ℤ b .right) × (b .top ≤ℤ b .bottom)
+unfolding get-bounds-path
+bounds-order p path =
+    let h = all-in no-bounds (p ∷ path) .0 in
+    let u = h .0 in let v = h .1 in let w = h .2 in let x = h .3 in
+    (omega zint, omega zint)

@@ -1,36 +1,35 @@
 -- The same for the line clipper: its walk, and its returned points.
-use mathlib.Core.Path.{_≡_, refl, sym, ap, _∙_, subst}
-use mathlib.Core.Bool.{Bool, true, false, cond, not, _&&_, _||_}
-use mathlib.Core.List.{List, [], _∷_, _++_}
-use Prim.Native.Nat.{ℕ, zero, suc, _+_, _-_, _*_, _<_, _≤_}
+use mathlib.Core.Path.{_≡_, refl}
+use mathlib.Core.Bool.{Bool, true, false, cond, not}
+use mathlib.Core.List.{List, [], _∷_}
+use Prim.Native.Nat.{ℕ, zero, suc, _+_, _-_, _<_}
 use native.Mathlib.Omega.{arith}
-use lib.ListN.{length, getD, take, drop}
-use lib.Dec.{T, leb, ltb, eqb, nleb→lt, ltb→lt, nltb→le}
-use Rattle.integers.specs.Tests.{T-of, T-not-of}
+use lib.ListN.{length, take, drop}
+use lib.Dec.{leb, ltb, nleb→lt, nltb→le}
+use Rattle.integers.specs.Tests.{T-not-of}
 use Rattle.plane.specs.declared.point.Point64.{Point64}
 use Rattle.plane.specs.declared.rect.Rect64.{Rect64}
 use Rattle.plane.specs.declared.location.Location.{Location}
 use Rattle.plane.specs.declared.location.Location.the-variants.{Left, Top, Right, Bottom, Inside}
-use Rattle.plane.specs.declared.crossing.Search.{Search}
 use Rattle.plane.specs.declared.crossing.Search.the-variants.{Missed, Found}
-use Rattle.plane.specs.Basics.{if_then_else_, lead, is-nil, Try, refuse, ok, _>>=_}
+use Rattle.plane.specs.Basics.{if_then_else_, lead, ok, _>>=_}
 use Rattle.plane.specs.Points.{pt-at, origin}
-use Rattle.plane.specs.Rectangle.{get-location, get-bounds-path, is-empty, intersects, corner, beyond, beyond-or-on}
+use Rattle.plane.specs.Rectangle.{get-location, get-bounds-path, is-empty, intersects, beyond, beyond-or-on}
 use Rattle.plane.specs.Intersection.{get-intersection}
-use Rattle.reference.specs.Walk.{Walk, nothing-yet, add, add-all, Next, next-inside, next-outside, get-next-location}
+use Rattle.reference.specs.Walk.{Walk, nothing-yet, add, Next, next-inside, next-outside, get-next-location}
 use Rattle.plane.specs.Locations.{is-inside}
 use Rattle.reference.specs.Lines.{line-through, line-cross, line-from, line-passes, first-off-edge, line-walk-from, walk-open, pieces, longer-than-one, execute-lines}
-use Rattle.theorems.proofs.Holds.{Holds, refused, held, bind, either, by-search, All, all-push, all-drop, all-at, all-of}
-use Rattle.theorems.proofs.Points.{WithinSides, Kept, KeptNext, add-kept, add-all-kept, next-kept, next-inside-kept, Finds}
+use Rattle.theorems.proofs.Holds.{Holds, refused, held, bind, either, by-search, All, all-drop, all-at}
+use Rattle.theorems.proofs.Points.{WithinSides, Keeping, add-all-kept}
 use Rattle.theorems.proofs.Returned.{AllPaths}
 use Rattle.theorems.proofs.OnEdge.{on-edge}
 
-module _ (full : ℕ → Bool) (P : Point64 → Type 0) (rect : Rect64) (corners : (s : Location) → P (corner rect s)) (path : List Point64) (inputs : All (λ p. WithinSides rect p → P p) path) where
+module _ (full : ℕ → Bool) (P : Point64 → Type 0) (K : Walk → Type 0) (keep : Keeping full P K) (rect : Rect64) (path : List Point64) (inputs : All (λ p. WithinSides rect p → P p) path) where
   -- the points, and a place behind the first point
   abbrev pub LineKept : Next → Type 0
-  LineKept n = All P (n .walk .points) × (0 < n .i)
+  LineKept n = K (n .walk) × (0 < n .i)
 
-  inside-later : (w : Walk) (i : ℕ) (ps : List Point64) → 0 < i → All P (w .points) → All (λ p. WithinSides rect p → P p) ps → Holds LineKept (next-inside full rect w i ps)
+  inside-later : (w : Walk) (i : ℕ) (ps : List Point64) → 0 < i → K w → All (λ p. WithinSides rect p → P p) ps → Holds LineKept (next-inside full rect w i ps)
   unfolding next-inside
   inside-later w i [] l h a = held (h, l)
   inside-later w i (p ∷ ps) l h a =
@@ -38,17 +37,17 @@ module _ (full : ℕ → Bool) (P : Point64 → Type 0) (rect : Rect64) (corners
       (λ e. either LineKept (beyond rect Right p) _ _ (λ _. held (h, l))
       (λ r. either LineKept (beyond rect Bottom p) _ _ (λ _. held (h, l))
       (λ b. either LineKept (beyond rect Top p) _ _ (λ _. held (h, l))
-      (λ t. bind (Kept full P) LineKept (add full w p false) _ (add-kept full P w p false h (a .0 (record { left = e; right = r; bottom = b; top = t })))
+      (λ t. bind K LineKept (add full w p false) _ (keep .adds w p false h (a .0 (record { left = e; right = r; bottom = b; top = t })))
       (λ v k. inside-later v (i + 1) ps (omega arith) k (a .1))))))
 
-  outside-later : (w : Walk) (s : Location) (i : ℕ) → 0 < i → All P (w .points) → LineKept (next-outside rect path w s i)
+  outside-later : (w : Walk) (s : Location) (i : ℕ) → 0 < i → K w → LineKept (next-outside rect path w s i)
   unfolding next-outside
   outside-later w s i l h = (h, later (lead (beyond-or-on rect s) (drop i path)))
     where
       later : (k : ℕ) → 0 < i + k
       later k = omega arith
 
-  next-later : (w : Walk) (loc : Location) (i : ℕ) → 0 < i → All P (w .points) → Holds LineKept (get-next-location full rect path w loc i)
+  next-later : (w : Walk) (loc : Location) (i : ℕ) → 0 < i → K w → Holds LineKept (get-next-location full rect path w loc i)
   unfolding get-next-location
   next-later w Left i l h = held (outside-later w Left i l h)
   next-later w Top i l h = held (outside-later w Top i l h)
@@ -63,15 +62,15 @@ module _ (full : ℕ → Bool) (P : Point64 → Type 0) (rect : Rect64) (corners
   unfolding line-through
   through-kept n prev prev-pt pt ip h q f =
       by-search LineKept (get-intersection rect prev-pt pt prev) _ _ (λ _. refused)
-      (λ ip2 l e. bind (Kept full P) LineKept (add full (n .walk) ip2 true) _ (add-kept full P (n .walk) ip2 true (h .0) (f prev ip2 l e))
-      (λ w k. bind (Kept full P) LineKept (add full w ip false) _ (add-kept full P w ip false k q) (λ v g. held (g, h .1))))
+      (λ ip2 l e. bind K LineKept (add full (n .walk) ip2 true) _ (keep .adds (n .walk) ip2 true (h .0) (f prev ip2 l e))
+      (λ w k. bind K LineKept (add full w ip false) _ (keep .adds w ip false k q) (λ v g. held (g, h .1))))
 
   cross-kept : (n : Next) (prev : Location) (prev-pt pt ip : Point64) → LineKept n → P ip → Finds′ prev-pt pt → Holds LineKept (line-cross full rect n prev prev-pt pt ip)
   unfolding line-cross
   cross-kept n prev prev-pt pt ip h q f =
-      either LineKept (is-inside (n .loc)) _ _ (λ _. bind (Kept full P) LineKept (add full (n .walk) ip true) _ (add-kept full P (n .walk) ip true (h .0) q) (λ w k. held (k, h .1)))
+      either LineKept (is-inside (n .loc)) _ _ (λ _. bind K LineKept (add full (n .walk) ip true) _ (keep .adds (n .walk) ip true (h .0) q) (λ w k. held (k, h .1)))
       (λ _. either LineKept (not (is-inside prev)) _ _ (λ _. through-kept n prev prev-pt pt ip h q f)
-      (λ _. bind (Kept full P) LineKept (add full (n .walk) ip false) _ (add-kept full P (n .walk) ip false (h .0) q) (λ w k. held (k, h .1))))
+      (λ _. bind K LineKept (add full (n .walk) ip false) _ (keep .adds (n .walk) ip false (h .0) q) (λ w k. held (k, h .1))))
 
   module _ (finds : (i : ℕ) → 0 < i → i < length path → Finds′ (pt-at path i) (pt-at path (i - 1))) (finds-back : (i : ℕ) → 0 < i → i < length path → Finds′ (pt-at path (i - 1)) (pt-at path i)) where
     from-kept : (prev : Location) (n : Next) → LineKept n → Holds LineKept (line-from full rect path prev n)
@@ -97,12 +96,12 @@ module _ (full : ℕ → Bool) (P : Point64 → Type 0) (rect : Rect64) (corners
         (λ _. held h)
 
     -- the walk begins with the first point, where it is inside
-    line-walk-kept : (loc : Location) → 1 < length path → (is-inside loc ≡ true → P (pt-at path 0)) → Holds (Kept full P) (line-walk-from full rect path loc)
+    line-walk-kept : (loc : Location) → 1 < length path → (is-inside loc ≡ true → P (pt-at path 0)) → Holds K (line-walk-from full rect path loc)
     unfolding line-walk-from
     line-walk-kept loc l first =
-        bind (Kept full P) (Kept full P) (if is-inside loc then add full nothing-yet (pt-at path 0) false else ok nothing-yet) _
-        (either (Kept full P) (is-inside loc) _ _ (λ e. add-kept full P nothing-yet (pt-at path 0) false tt (first e)) (λ _. held tt))
-        (λ w k. bind LineKept (Kept full P) (line-passes full rect path (length path) (record { walk = w; loc = loc; i = 1 })) _
+        bind K K (if is-inside loc then add full nothing-yet (pt-at path 0) false else ok nothing-yet) _
+        (either K (is-inside loc) _ _ (λ e. keep .adds nothing-yet (pt-at path 0) false (keep .start) (first e)) (λ _. held (keep .start)))
+        (λ w k. bind LineKept K (line-passes full rect path (length path) (record { walk = w; loc = loc; i = 1 })) _
         (passes-kept (length path) _ (k, one)) (λ s g. held (g .0)))
       where
         one : 0 < 1
@@ -132,15 +131,15 @@ module _ (full : ℕ → Bool) (P : Point64 → Type 0) (rect : Rect64) (corners
       all-off (p ∷ ps) e h = (e, h)
 
       -- a location Inside, off the edges, is beyond no side
-      pub walk-open-kept : ((p : Point64) → get-location rect p .off ≡ true → is-inside (get-location rect p .loc) ≡ true → WithinSides rect p) → Holds (Kept full P) (walk-open full rect path)
+      pub walk-open-kept : ((p : Point64) → get-location rect p .off ≡ true → is-inside (get-location rect p .loc) ≡ true → WithinSides rect p) → Holds K (walk-open full rect path)
       unfolding walk-open
       walk-open-kept inner =
-          either (Kept full P) (ltb (length path) 2) _ _ (λ _. held tt)
+          either K (ltb (length path) 2) _ _ (λ _. held (keep .start))
           (λ n. let l : 1 < length path = nltb→le (length path) 2 (T-not-of n) in
-          either (Kept full P) (get-location rect (pt-at path 0) .off) _ _
+          either K (get-location rect (pt-at path 0) .off) _ _
           (λ o. line-walk-kept (get-location rect (pt-at path 0) .loc) l (λ e. first-kept l (inner (pt-at path 0) o e)))
-          (λ o. by-search (Kept full P) (first-off-edge rect (drop 1 path)) _ _
-          (λ m. add-all-kept full P nothing-yet path tt (on-edges path inputs (all-off path o (off-missed (drop 1 path) m))))
+          (λ o. by-search K (first-off-edge rect (drop 1 path)) _ _
+          (λ m. add-all-kept full P K keep nothing-yet path (keep .start) (on-edges path inputs (all-off path o (off-missed (drop 1 path) m))))
           (λ p prev f. line-walk-kept (if is-inside prev then Inside else get-location rect (pt-at path 0) .loc) l (λ _. first-kept l (on-edge rect not-empty (pt-at path 0) o)))))
 
 -- ---- the returned paths are parts of the walk's points
@@ -165,9 +164,9 @@ module _ (P : Point64 → Type 0) where
       go true k = (h .0, k)
       go false k = k
 
-  pub lines-kept : (full : ℕ → Bool) (rect : Rect64) (path : List Point64) → (is-empty rect ≡ false → Holds (Kept full P) (walk-open full rect path)) → Holds (AllPaths P) (execute-lines full rect path)
+  pub lines-kept : (full : ℕ → Bool) (rect : Rect64) (path : List Point64) → (is-empty rect ≡ false → Holds (λ w. All P (w .points)) (walk-open full rect path)) → Holds (AllPaths P) (execute-lines full rect path)
   unfolding execute-lines
   lines-kept full rect path h =
       either (AllPaths P) (is-empty rect) _ _ (λ _. held tt)
       (λ e. either (AllPaths P) (not (intersects rect (get-bounds-path path))) _ _ (λ _. held tt)
-      (λ _. bind (Kept full P) (AllPaths P) (walk-open full rect path) _ (h e) (λ w k. held (longer-kept (pieces (w .points) (w .starts)) (pieces-kept (w .points) (w .starts) k)))))
+      (λ _. bind (λ w. All P (w .points)) (AllPaths P) (walk-open full rect path) _ (h e) (λ w k. held (longer-kept (pieces (w .points) (w .starts)) (pieces-kept (w .points) (w .starts) k)))))

@@ -1,32 +1,33 @@
 -- Unlinking flat nodes, and reading the paths out: the paths' areas add up to the rings'.
-use mathlib.Core.Path.{_≡_, refl, sym, _∙_, ap, subst, subst₂}
-use mathlib.Core.Bool.{Bool, true, false, cond, not, _&&_, _||_}
-use mathlib.Core.List.{List, [], _∷_, _++_}
-use mathlib.Core.Logic.{⊎-elim, _⊎_, inl, inr}
-use Prim.Native.Nat.{ℕ, zero, suc, _+_, _*_, _-_, _<_, _≤_}
+use mathlib.Core.Path.{_≡_, refl, sym, _∙_, ap, subst}
+use mathlib.Core.Bool.{Bool, true, false, cond, _||_}
+use mathlib.Core.List.{List, [], _∷_}
+use mathlib.Core.Logic.{⊎-elim, inr}
+use Prim.Native.Nat.{ℕ, zero, suc, _<_, _≤_}
 use lib.ListN.{length, getD, set, length-set}
 use lib.Seq.{getD-set-same, getD-set-other}
 use lib.Dec.{eqb}
-use lib.IntN.{ℤ, pos, _+ℤ_, _-ℤ_, _*ℤ_, +ℤ-assoc, +ℤ-comm, +ℤ-idl, +ℤ-idr}
+use lib.IntN.{ℤ, pos, _+ℤ_, _-ℤ_, _*ℤ_, +ℤ-assoc, +ℤ-idl}
 use native.Mathlib.Omega.{arith}
 use native.Mathlib.Decide.{ℕ-discrete}
-use borrow.Author.Tests.{eqb-true, eqb-false, eq-eqb, ne-eqb}
-use Rattle.integers.specs.Ring.{Ex, var, con, _⊕_, _⊖_, _⊗_, ring}
+use borrow.Author.Tests.{eqb-false, eq-eqb, ne-eqb}
+use Rattle.integers.specs.Ring.{var, con, _⊕_, _⊖_, _⊗_, ring}
 use Rattle.plane.specs.declared.point.Point64.{Point64}
-use Rattle.plane.specs.Basics.{if_then_else_, none, push, is-nil, upwards}
-use Rattle.reference.specs.Arena.{Arena, pt-of, next-of, prev-of, result-of, set-next, set-prev, set-results, set-result, unlink, unlink-op, is-flat, Round}
-use Rattle.reference.specs.Tidy.{is-stub}
-use Rattle.reference.specs.Clip.{straighten-pass, straighten, points-from, get-path, get-paths}
-use Rattle.reference.specs.Demand.{area-step, area-to, signedArea2, totalArea2}
-use Rattle.theorems.proofs.RingLaw.{Link, Chain, Ring, end, off-end, Off, Distinct, Bypassed}
+use Rattle.plane.specs.Basics.{none}
+use Rattle.reference.specs.Arena.{Arena, pt-of, next-of, prev-of, set-next, set-prev, unlink, unlink-op, is-flat, Round}
+use Rattle.reference.specs.Clip.{straighten-pass, straighten, points-from}
+use Rattle.theorems.specs.Demand.{area-to, signedArea2}
+use Rattle.theorems.proofs.Unlinked.{bypassed}
+use Rattle.theorems.proofs.RingLaw.{Chain, Ring, end, off-end, Off, Distinct, Bypassed}
 use Rattle.theorems.proofs.AreaLaw.{sum, area}
-use Rattle.theorems.proofs.Links.{Linked, unlink-bypasses}
 use Rattle.theorems.proofs.Flat.{flat-keeps}
-use Rattle.theorems.proofs.Pigeon.{pigeon, Below}
-use Rattle.theorems.proofs.RingSet.{RingOf, All, In, all-map, all-in, off-in, Ok, Rings, areaOf, total, unlink-rings}
-use Rattle.theorems.proofs.RingStep.{Found, Turned, numbered, from-node, next-live, prev-live, node-in, found-of}
-use Rattle.theorems.proofs.TidyLinks.{at}
+use Rattle.theorems.proofs.Pigeon.{pigeon}
+use Rattle.theorems.proofs.RingLists.{All, In}
+use Rattle.theorems.proofs.RingSet.{Ok, Rings, areaOf, unlink-rings}
+use Rattle.theorems.proofs.RingStep.{Turned, numbered, from-node, next-live, prev-live, node-in}
+use Rattle.theorems.proofs.TidyLinks.{below-of}
 use Rattle.theorems.proofs.TidyInv.{weight}
+use Rattle.integers.specs.Tests.{cond-true, cond-false}
 
 -- the rings of an arena whose owners are ow
 pub record Some (pts : List Point64) (ow : ℕ → ℕ) (a : Arena) (rs : List (List ℕ)) : Type 0 where
@@ -77,16 +78,11 @@ unlink-results a b = go (eqb (next-of a b) b)
     go false = refl
 
 module _ (pts : List Point64) (ow : ℕ → ℕ) (a : Arena) (rs : List (List ℕ)) (S : Some pts ow a rs) (r b : ℕ) (h : In b (getD rs r [])) where
-  bypassed : (next-of a b ≡ b → ⊥) → Bypassed (next-of a) (prev-of a) (next-of (unlink a b)) (prev-of (unlink a b)) b
-  unfolding unlink set-next set-prev
-  bypassed more = rw (ne-eqb (next-of a b) b more) (record {
-    over = record {
-      fore = getD-set-same (a .next) (prev-of a b) (next-of a b) none (subst (λ (k : ℕ). prev-of a b < k) (sym (S .nexts)) (node-in (weight pts) (length pts) (next-of a) (prev-of a) ow rs (S .rings) r (prev-of a b) (prev-live (weight pts) (length pts) (next-of a) (prev-of a) ow rs (S .rings) r b h)));
-      back = getD-set-same (a .prev) (next-of a b) (prev-of a b) none (subst (λ (k : ℕ). next-of a b < k) (sym (S .prevs)) (node-in (weight pts) (length pts) (next-of a) (prev-of a) ow rs (S .rings) r (next-of a b) (next-live (weight pts) (length pts) (next-of a) (prev-of a) ow rs (S .rings) r b h)));
-    };
-    fore = λ i d. getD-set-other (a .next) (prev-of a b) i (next-of a b) none d;
-    back = λ i d. getD-set-other (a .prev) (next-of a b) i (prev-of a b) none d;
-  })
+  by-it : (next-of a b ≡ b → ⊥) → Bypassed (next-of a) (prev-of a) (next-of (unlink a b)) (prev-of (unlink a b)) b
+  by-it more =
+      bypassed a b more
+      (subst (λ (k : ℕ). prev-of a b < k) (sym (S .nexts)) (node-in (weight pts) (length pts) (next-of a) (prev-of a) ow rs (S .rings) r (prev-of a b) (prev-live (weight pts) (length pts) (next-of a) (prev-of a) ow rs (S .rings) r b h)))
+      (subst (λ (k : ℕ). next-of a b < k) (sym (S .prevs)) (node-in (weight pts) (length pts) (next-of a) (prev-of a) ow rs (S .rings) r (next-of a b) (next-live (weight pts) (length pts) (next-of a) (prev-of a) ow rs (S .rings) r b h)))
 
   cut-go : (xs : List ℕ) → Turned (weight pts) (length pts) (next-of a) (prev-of a) ow r (getD rs r []) (b ∷ xs) → (next-of a b ≡ b → ⊥) → is-flat pts a b ≡ true → Cut pts ow a rs r b
   unfolding areaOf
@@ -105,7 +101,7 @@ module _ (pts : List Point64) (ow : ℕ → ℕ) (a : Arena) (rs : List (List �
       record {
         rs′ = rs2;
         some = record {
-          rings = unlink-rings (length pts) (next-of a) (prev-of a) ow (next-of (unlink a b)) (prev-of (unlink a b)) rs1 r b x xs G1 hr1 (getD-set-same rs r (b ∷ x ∷ xs) [] hr) (bypassed more);
+          rings = unlink-rings (length pts) (next-of a) (prev-of a) ow (next-of (unlink a b)) (prev-of (unlink a b)) rs1 r b x xs G1 hr1 (getD-set-same rs r (b ∷ x ∷ xs) [] hr) (by-it more);
           nexts = unlink-sizes a b .0 ∙ S .nexts;
           prevs = unlink-sizes a b .1 ∙ S .prevs;
         };
@@ -211,37 +207,35 @@ unfolding pt-list sum
 list-area pts f x [] = sym (+ℤ-idl (weight pts x f))
 list-area pts f x (y ∷ ys) = ap (λ (z : ℤ). weight pts x y +ℤ z) (list-area pts f y ys) ∙ sym (+ℤ-assoc (weight pts x y) (sum (weight pts) y ys) (weight pts (end y ys) f))
 
-cond-t : {A : Type 0} (b : Bool) (x y : A) → b ≡ true → cond b x y ≡ x
-cond-t true x y e = refl
-cond-t false x y e = let z : _≡_ {A = ℕ} 0 1 = cc in absurd (omega arith)
-
-cond-f : {A : Type 0} (b : Bool) (x y : A) → b ≡ false → cond b x y ≡ y
-cond-f false x y e = refl
-cond-f true x y e = let z : _≡_ {A = ℕ} 0 1 = cc in absurd (omega arith)
-
 read-stop : (pts : List Point64) (left : ℕ) (a : Arena) (start curr : ℕ) → curr ≡ start → points-from pts left a start curr ≡ []
 unfolding points-from
 read-stop pts zero a start curr e = refl
-read-stop pts (suc left) a start curr e = cond-t (eqb curr start) _ _ (eq-eqb curr start e)
+read-stop pts (suc left) a start curr e = cond-true (eqb curr start) _ _ (eq-eqb curr start e)
 
 read-chain : (pts : List Point64) (left : ℕ) (a : Arena) (start x : ℕ) (xs : List ℕ) → Chain (next-of a) (prev-of a) x xs → next-of a (end x xs) ≡ start → Off start (x ∷ xs) → length xs < left
     → points-from pts left a start x ≡ pt-list pts (x ∷ xs)
 unfolding points-from pt-list
 read-chain pts zero a start x xs c e o l = absurd (omega arith)
-read-chain pts (suc left) a start x [] c e o l = cond-f (eqb x start) _ _ (ne-eqb x start (o .0)) ∙ ap (λ (p : List Point64). pt-of pts x ∷ p) (read-stop pts left a start (next-of a x) e)
+read-chain pts (suc left) a start x [] c e o l = cond-false (eqb x start) _ _ (ne-eqb x start (o .0)) ∙ ap (λ (p : List Point64). pt-of pts x ∷ p) (read-stop pts left a start (next-of a x) e)
 read-chain pts (suc left) a start x (y ∷ ys) c e o l =
-    cond-f (eqb x start) _ _ (ne-eqb x start (o .0))
+    cond-false (eqb x start) _ _ (ne-eqb x start (o .0))
     ∙ ap (λ (p : List Point64). pt-of pts x ∷ p) (ap (points-from pts left a start) (c .0 .fore) ∙ read-chain pts left a start y ys (c .1) e (o .1) (omega arith))
 
-below-of : (n : ℕ) (xs : List ℕ) → All (λ i. i < n) xs → Below n xs
-below-of n [] h = tt
-below-of n (x ∷ xs) h = (h .0, below-of n xs (h .1))
+-- a ring is read as the points of its nodes, each once
+pub read-list : (pts : List Point64) (a : Arena) (x : ℕ) (xs : List ℕ) → Ring (next-of a) (prev-of a) x xs → Distinct (x ∷ xs) → All (λ i. i < length pts) (x ∷ xs)
+    → pt-of pts x ∷ points-from pts (length pts) a x (next-of a x) ≡ pt-list pts (x ∷ xs)
+unfolding pt-list
+read-list pts a x [] r d b = ap (λ (l : List Point64). pt-of pts x ∷ l) (read-stop pts (length pts) a x (next-of a x) (r .closes .fore))
+read-list pts a x (y ∷ ys) r d b =
+    let p : length (x ∷ y ∷ ys) ≤ length pts = pigeon (length pts) (x ∷ y ∷ ys) d (below-of (length pts) (x ∷ y ∷ ys) b) in
+    ap (λ (l : List Point64). pt-of pts x ∷ l) (ap (points-from pts (length pts) a x) (r .chain .0 .fore) ∙ read-chain pts (length pts) a x y ys (r .chain .1) (r .closes .fore) (d .0) (omega arith))
+
+pub list-length : (pts : List Point64) (xs : List ℕ) → length (pt-list pts xs) ≡ length xs
+unfolding pt-list
+list-length pts [] = refl
+list-length pts (x ∷ xs) = ap suc (list-length pts xs)
 
 pub read-ring : (pts : List Point64) (a : Arena) (x : ℕ) (xs : List ℕ) → Ring (next-of a) (prev-of a) x xs → Distinct (x ∷ xs) → All (λ i. i < length pts) (x ∷ xs)
     → signedArea2 (pt-of pts x ∷ points-from pts (length pts) a x (next-of a x)) ≡ areaOf (weight pts) (x ∷ xs)
 unfolding signedArea2 areaOf area pt-list
-read-ring pts a x [] r d b = ap (area-to (pt-of pts x) (pt-of pts x)) (read-stop pts (length pts) a x (next-of a x) (r .closes .fore)) ∙ list-area pts x x []
-read-ring pts a x (y ∷ ys) r d b =
-    let p : length (x ∷ y ∷ ys) ≤ length pts = pigeon (length pts) (x ∷ y ∷ ys) d (below-of (length pts) (x ∷ y ∷ ys) b) in
-    ap (area-to (pt-of pts x) (pt-of pts x)) (ap (points-from pts (length pts) a x) (r .chain .0 .fore) ∙ read-chain pts (length pts) a x y ys (r .chain .1) (r .closes .fore) (d .0) (omega arith))
-    ∙ list-area pts x x (y ∷ ys)
+read-ring pts a x xs r d b = ap signedArea2 (read-list pts a x xs r d b) ∙ list-area pts x x xs

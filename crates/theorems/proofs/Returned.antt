@@ -1,32 +1,26 @@
 -- Every returned point is a walked point: what holds of all walked points holds of all returned ones.
-use mathlib.Core.Path.{_≡_, refl, sym, ap, _∙_, subst}
+use mathlib.Core.Path.{_≡_, refl, sym, subst}
 use mathlib.Core.Bool.{Bool, true, false, cond, not, _&&_, _||_}
 use mathlib.Core.List.{List, [], _∷_, _++_}
-use mathlib.Core.Logic.{_⊎_, inl, inr}
-use Prim.Native.Nat.{ℕ, zero, suc, _+_, _-_, _*_, _<_, _≤_, suc-le-suc, zero-le}
+use Prim.Native.Nat.{ℕ, zero, suc, _+_, _-_, _*_, _<_, suc-le-suc, zero-le}
 use native.Mathlib.Omega.{arith}
 use native.Mathlib.Nat.{not-suc-le-zero}
-use lib.ListN.{length, getD, take, drop, length-append}
-use lib.Dec.{T, leb, ltb, eqb}
+use lib.ListN.{length, getD}
+use lib.Dec.{ltb, eqb}
 use Rattle.plane.specs.declared.point.Point64.{Point64}
 use Rattle.plane.specs.declared.rect.Rect64.{Rect64}
 use Rattle.plane.specs.declared.location.Location.{Location}
 use Rattle.plane.specs.declared.location.Location.the-variants.{Inside}
-use Rattle.plane.specs.declared.crossing.Search.the-variants.{Missed, Found}
-use Rattle.plane.specs.Basics.{if_then_else_, none, push, is-nil, upwards, Try, refuse, ok, _>>=_}
+use Rattle.plane.specs.Basics.{if_then_else_, none, is-nil, ok, _>>=_}
 use Rattle.plane.specs.Locations.{side, same-location, heading-clockwise, is-inside}
-use Rattle.plane.specs.Points.{pt-at, origin, same-point}
-use Rattle.plane.specs.Rectangle.{get-location, mid-point, contains-point, get-bounds-path, as-path, is-empty, intersects, contains-rect, corner}
+use Rattle.plane.specs.Points.{pt-at, same-point}
+use Rattle.plane.specs.Rectangle.{get-location, mid-point, contains-point, get-bounds-path, as-path, corner}
 use Rattle.plane.specs.Polygon.{path1-contains-path2}
 use Rattle.reference.specs.Walk.{Walk, nothing-yet, add, add-all, State, Walked, add-corner-loc, passes, last-off, add-round, surround, retrace, close-outline, after-while, walk-from, walk-closed}
-use Rattle.reference.specs.Arena.{Arena, pt-of, next-of, result-of, set-result, ring, check-edges, check-from, Round}
+use Rattle.reference.specs.Arena.{Arena, pt-of, next-of, result-of, set-result, ring, check-edges, check-from}
 use Rattle.reference.specs.Tidy.{is-stub, tidy-edges}
-use Rattle.reference.specs.Clip.{enter-all, arena-of, straighten, points-from, get-path, get-paths, clip-walked, execute}
-use Rattle.theorems.proofs.Holds.{Holds, refused, held, bind, either, by-search, All}
-
-pub anything : {A : Type 0} (m : Try A) → Holds (λ _. Unit {0}) m
-anything (refuse n) = refused
-anything (ok a) = held tt
+use Rattle.reference.specs.Clip.{enter-all, arena-of, straighten, points-from, get-path, get-paths, clip-walked}
+use Rattle.theorems.proofs.Holds.{Holds, refused, held, bind, either, by-search, All, anything}
 
 -- ---- where there is no point, nothing is entered in an edge list
 pub data Entered (w : Walked) : Type 0 where

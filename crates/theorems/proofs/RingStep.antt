@@ -1,16 +1,17 @@
 -- The core of the invariant, over functions: all rings by owner, a result in each, and the total area. What one split and one rejoining do to it.
 use mathlib.Core.Path.{_≡_, refl, sym, _∙_, ap, subst, subst₂}
-use mathlib.Core.List.{List, [], _∷_, _++_, append-assoc}
+use mathlib.Core.List.{List, [], _∷_, _++_}
 use mathlib.Core.Logic.{⊎-elim, _⊎_, inl, inr}
-use Prim.Native.Nat.{ℕ, zero, suc, _+_, _*_, _-_, _<_, _≤_}
+use Prim.Native.Nat.{ℕ, suc, _<_}
 use lib.ListN.{length, getD, set, length-set, List·getD-append, List·getD-eq-default, length-append}
 use lib.Seq.{getD-set-same, getD-set-other, getD-at}
-use lib.IntN.{ℤ, pos, _+ℤ_}
+use lib.IntN.{ℤ, _+ℤ_}
 use native.Mathlib.Omega.{arith}
 use native.Mathlib.Decide.{ℕ-discrete, decLt}
 use Rattle.plane.specs.Basics.{none}
-use Rattle.theorems.proofs.RingLaw.{Link, Chain, Ring, end, Off, Distinct, Exchanged, Bypassed, split, distinct-left, distinct-right, chain-seam, end-append}
-use Rattle.theorems.proofs.RingSet.{RingOf, All, In, all-map, all-end, all-in, all-of, all-left, all-right, in-append, in-left, in-right, off-in, off-of, Ok, Rings, other, all-off, split-rings, join-rings, areaOf, total, total-set, total-split, total-join, ok-turn, area-one, ending, beginning, parts}
+use Rattle.theorems.proofs.RingLaw.{Link, end, Off, Distinct, Exchanged, split, distinct-right, chain-seam, end-append}
+use Rattle.theorems.proofs.RingLists.{RingOf, All, In, all-map, all-in, all-of, all-right, in-append, in-left, in-right, all-off}
+use Rattle.theorems.proofs.RingSet.{Ok, Rings, other, split-rings, join-rings, areaOf, total, total-set, total-split, total-join, ok-turn, area-one, ending, beginning, parts}
 
 -- the result of a ring is one of its nodes, and of no ring it is none
 abbrev pub Found : ℕ → List ℕ → Type 0
@@ -45,6 +46,7 @@ numbered rs s x h =
 pub record Turned (wt : ℕ → ℕ → ℤ) (n : ℕ) (nx pv ow : ℕ → ℕ) (s : ℕ) (zs z : List ℕ) : Type 0 where
   pub fine : Ok n nx pv ow s z
   pub area : areaOf wt z ≡ areaOf wt zs
+  pub long : length z ≡ length zs
   pub from : (j : ℕ) → In j z → In j zs
   pub back : (j : ℕ) → In j zs → In j z
 
@@ -60,12 +62,13 @@ module _ (wt : ℕ → ℕ → ℤ) (n : ℕ) (nx pv ow : ℕ → ℕ) (s : ℕ)
   turned x l t = record {
     fine = ok-turn n nx pv ow s x l (t .fine);
     area = area-one wt x l ∙ t .area;
+    long = let e = length-append l (x ∷ []) in let h = t .long in omega arith;
     from = λ j h. t .from j (turn-in j x l h);
     back = λ j h. in-turn j x l (t .back j h);
   }
 
   pub unturned : Ok n nx pv ow s zs → Turned wt n nx pv ow s zs zs
-  unturned k = record { fine = k; area = refl; from = λ j h. h; back = λ j h. h }
+  unturned k = record { fine = k; area = refl; long = refl; from = λ j h. h; back = λ j h. h }
 
 module _ (wt : ℕ → ℕ → ℤ) (n : ℕ) (nx pv ow : ℕ → ℕ) (rs : List (List ℕ)) (G : Rings n nx pv ow rs) where
   -- the ring of a node, from it on

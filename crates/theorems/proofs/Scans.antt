@@ -2,27 +2,25 @@
 use mathlib.Core.Path.{_≡_, refl, sym, ap, _∙_, subst}
 use mathlib.Core.Bool.{Bool, true, false, cond, not, _&&_, _||_, Bool·beq}
 use mathlib.Core.Logic.{_⊎_, inl, inr}
-use mathlib.Core.List.{List, [], _∷_}
-use Prim.Native.Nat.{ℕ, zero, suc, _+_, _-_, _*_, _<_, _≤_}
+use mathlib.Core.List.{List}
+use Prim.Native.Nat.{ℕ, zero, suc, _+_, _*_, _<_, _≤_}
 use native.Mathlib.Omega.{arith}
-use lib.ListN.{length, getD}
-use lib.Dec.{T, eqb, ltb, leb, ltb→lt, leb→le, nleb→lt, nltb→le, eqb→eq}
-use borrow.Author.Tests.{eq-eqb, ne-eqb}
-use lib.IntN.{ℤ, pos}
+use lib.ListN.{length}
+use lib.Dec.{eqb, ltb, leb, ltb→lt, leb→le, eqb→eq}
+use borrow.Author.Tests.{eq-eqb}
+use lib.IntN.{pos}
 use lib.Signed.{ltZ}
 use Rattle.integers.specs.Order.{zint, eq→}
-use Rattle.integers.specs.Tests.{eqZ, eqZ-true, le-ltZ, T-of, T-not-of}
+use Rattle.integers.specs.Tests.{eqZ, eqZ-true, le-ltZ, T-of}
 use Rattle.plane.specs.declared.point.Point64.{Point64}
 use Rattle.plane.specs.declared.location.PointInPolygonResult.{PointInPolygonResult}
-use Rattle.plane.specs.declared.location.PointInPolygonResult.the-variants.{IsOn, IsInside, IsOutside}
+use Rattle.plane.specs.declared.location.PointInPolygonResult.the-variants.{IsOn}
 use Rattle.plane.specs.Points.{pt-at}
 use Rattle.plane.specs.Signs.{cross-product-sign}
 use Rattle.plane.specs.Polygon.{Scan, ScanStep, on-edge, stop, again, first-off, skipped, before-idx, at-vertex, scan-pass, scan-answer, scan-loop}
-use Rattle.reference.specs.Bounds.{FirstOffEnds, SkippedEnds, ScanEnds}
-use Rattle.theorems.proofs.Drops.{more-of}
-
-never : {W : Type 0} {b : Bool} → b ≡ true → b ≡ false → W
-never {W} {b} e f = let z : _≡_ {A = Bool} true false = sym e ∙ f in let n : _≡_ {A = ℕ} 0 1 = ap (λ (b : Bool). cond b 0 1) z in absurd (omega arith)
+use Rattle.theorems.specs.Bounds.{FirstOffEnds, SkippedEnds, ScanEnds}
+use Rattle.theorems.proofs.Ends.{more-of}
+use Rattle.theorems.proofs.Tests.{never}
 
 not-eq : (m n : ℕ) → eqb m n ≡ false → m ≡ n → ⊥
 not-eq m n e q = never (eq-eqb m n q) e

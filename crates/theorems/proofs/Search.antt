@@ -21,7 +21,7 @@ use Rattle.plane.specs.Rectangle.{is-empty, beyond}
 use Rattle.plane.specs.Basics.{if_then_else_}
 use Rattle.plane.specs.Locations.{is-inside, lower, upper}
 use Rattle.plane.specs.Intersection.{edge-intersection, _or-else_, side-intersection, get-intersection}
-use Rattle.reference.specs.Demand.{ExactCrossing, AtMostOneOutside, onward, corner-point, crossing}
+use Rattle.theorems.specs.Demand.{ExactCrossing, AtMostOneOutside, onward, corner-point, crossing}
 use Rattle.theorems.proofs.Demand.{LimitedRect, search-hits, not-empty-order, outside}
 use Rattle.theorems.proofs.Sources as sources
 use Rattle.theorems.proofs.Sources.{at-corner, at-crossing}

@@ -1,33 +1,32 @@
 -- Every returned point has a source, for both clippers, given what a search for a crossing finds.
-use mathlib.Core.Path.{_≡_, refl, sym, ap, _∙_, subst}
-use mathlib.Core.Bool.{Bool, true, false, cond, not, _&&_, _||_}
-use mathlib.Core.List.{List, [], _∷_, _++_}
-use Prim.Native.Nat.{ℕ, zero, suc, _+_, _-_, _*_, _<_, _≤_, suc-le-suc, zero-le}
+use mathlib.Core.Path.{_≡_, refl, sym, _∙_, subst}
+use mathlib.Core.Bool.{Bool, true, false, cond, not, _&&_}
+use mathlib.Core.List.{List, [], _∷_}
+use Prim.Native.Nat.{ℕ, zero, suc, _+_, _-_, _<_, suc-le-suc, zero-le}
 use native.Mathlib.Omega.{arith}
-use lib.ListN.{length, getD, drop}
-use lib.Dec.{T, leb, ltb, eqb, lt→ltb, lit<}
+use lib.ListN.{length}
+use lib.Dec.{T, ltb, lt→ltb, lit<}
 use lib.Signed.{ltZ, leZ}
-use Rattle.integers.specs.Tests.{eqZ, ltZ-false, lt-ltZ, cond-true}
+use Rattle.integers.specs.Tests.{eqZ, ltZ-false, cond-true}
 use Rattle.plane.specs.declared.point.Point64.{Point64}
 use Rattle.plane.specs.declared.rect.Rect64.{Rect64}
 use Rattle.plane.specs.declared.location.Spot.{Spot}
 use Rattle.plane.specs.declared.location.Location.{Location}
 use Rattle.plane.specs.declared.location.Location.the-variants.{Left, Top, Right, Bottom, Inside}
-use Rattle.plane.specs.declared.crossing.Search.{Search}
-use Rattle.plane.specs.declared.crossing.Search.the-variants.{Missed, Found}
-use Rattle.plane.specs.Basics.{if_then_else_, Try, refuse, ok, _>>=_}
+use Rattle.plane.specs.declared.crossing.Search.the-variants.{Found}
+use Rattle.plane.specs.Basics.{Try, refuse, ok}
 use Rattle.plane.specs.Points.{pt-at, origin}
-use Rattle.plane.specs.Rectangle.{as-path, get-location, is-empty, intersects, contains-rect, get-bounds-path, corner, beyond}
-use Rattle.plane.specs.Locations.{same-location, is-inside}
+use Rattle.plane.specs.Rectangle.{as-path, get-location, is-empty, intersects, contains-rect, get-bounds-path, corner}
 use Rattle.plane.specs.Intersection.{get-intersection}
-use Rattle.reference.specs.Walk.{Walked, pt-before, walk-closed}
-use Rattle.reference.specs.Clip.{clip-walked, execute}
+use Rattle.reference.specs.Walk.{pt-before, walk-closed}
+use Rattle.plane.specs.Locations.{is-inside}
+use Rattle.reference.specs.Clip.{execute}
 use Rattle.reference.specs.Lines.{execute-lines}
-use Rattle.reference.specs.Demand.{ExactCrossing, NearTo, InOrOn, Segment, onward, closing, turned, Source, input-point, corner-point, crossing}
-use Rattle.theorems.proofs.Holds.{Holds, refused, held, bind, either, by-search, All, all-of}
-use Rattle.theorems.proofs.Points.{WithinSides, KeptWalked, walked-kept}
+use Rattle.theorems.specs.Demand.{ExactCrossing, NearTo, InOrOn, Segment, onward, closing, turned, Source, input-point, corner-point, crossing}
+use Rattle.theorems.proofs.Holds.{Holds, refused, held, bind, either, All, all-of}
+use Rattle.theorems.proofs.Points.{WithinSides, all-keeping, walked-kept}
 use Rattle.theorems.proofs.Returned.{Entered, walked-entered, AllPaths, KeptPaths, clip-kept}
-use Rattle.theorems.proofs.OnEdge.{within, on-edge, contained}
+use Rattle.theorems.proofs.OnEdge.{on-edge, contained}
 use Rattle.theorems.proofs.PointsOpen.{walk-open-kept, lines-kept}
 
 -- what a search finds on the segment from a to b: a corner, or a point near an exact crossing
@@ -42,7 +41,7 @@ in-or-on : (r : Rect64) (p : Point64) → WithinSides r p → InOrOn r p
 in-or-on r p h = record { left = ltZ-false (h .left); right = ltZ-false (h .right); top = ltZ-false (h .top); bottom = ltZ-false (h .bottom) }
 
 -- Inside, off the edges
-inner : (r : Rect64) (p : Point64) → get-location r p .off ≡ true → is-inside (get-location r p .loc) ≡ true → WithinSides r p
+pub inner : (r : Rect64) (p : Point64) → get-location r p .off ≡ true → is-inside (get-location r p .loc) ≡ true → WithinSides r p
 unfolding get-location
 inner r p =
     chain (eqZ (p .x) (r .left) && leZ (r .top) (p .y) && leZ (p .y) (r .bottom)) _ _ (λ e _. never e)
@@ -120,9 +119,9 @@ module _ (full : ℕ → Bool) (A : ℕ) (r : Rect64) (path : List Point64) (sea
       (λ _. either (KeptPaths (Source true r path)) (not (intersects r (get-bounds-path path))) _ _ (λ _. held tt)
       (λ _. either (KeptPaths (Source true r path)) (contains-rect r (get-bounds-path path)) _ _
       (λ c. held (all-inputs path (inputs true r path searches) (contained r path c), tt))
-      (λ _. bind (λ w. KeptWalked full (Source true r path) w × Entered w) (KeptPaths (Source true r path)) (walk-closed full r path) _
+      (λ _. bind (λ w. All (Source true r path) (w .walk .points) × Entered w) (KeptPaths (Source true r path)) (walk-closed full r path) _
       (holds-both
-      (walked-kept full (Source true r path) r (corners true r path searches) path (inputs true r path searches)
+      (walked-kept full (Source true r path) (λ w. All (Source true r path) (w .points)) (all-keeping full (Source true r path)) r (corners true r path searches) path (inputs true r path searches)
       (λ i l. found true r path searches (pt-at path i) (pt-before path i) (turned (before i l)))
       (λ i l. found true r path searches (pt-before path i) (pt-at path i) (before i l)) (on-edge r n))
       (walked-entered full r path))
@@ -138,6 +137,6 @@ module _ (full : ℕ → Bool) (r : Rect64) (path : List Point64) (searches : (a
   pub open-sources : Holds (AllPaths (Source false r path)) (execute-lines full r path)
   open-sources =
       lines-kept (Source false r path) full r path
-      (λ n. walk-open-kept full (Source false r path) r (corners false r path searches) path (inputs false r path searches)
+      (λ n. walk-open-kept full (Source false r path) (λ w. All (Source false r path) (w .points)) (all-keeping full (Source false r path)) r path (inputs false r path searches)
       (λ i z l. found false r path searches (pt-at path i) (pt-at path (i - 1)) (turned (step i z l)))
       (λ i z l. found false r path searches (pt-at path (i - 1)) (pt-at path i) (step i z l)) n (inner r))

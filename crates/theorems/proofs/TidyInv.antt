@@ -1,25 +1,21 @@
 -- The invariant of `tidy_edges`, and that the split or rejoining of a turn keeps it.
-use mathlib.Core.Path.{_≡_, refl, sym, _∙_, ap, subst, subst₂}
-use mathlib.Core.Bool.{Bool, true, false, cond, not, _||_}
-use mathlib.Core.List.{List, [], _∷_, _++_}
+use mathlib.Core.Path.{_≡_, sym, _∙_, ap, subst, subst₂}
+use mathlib.Core.List.{List, [], _∷_}
 use mathlib.Core.Logic.{⊎-elim, _⊎_, inl, inr}
-use Prim.Native.Nat.{ℕ, zero, suc, _+_, _*_, _-_, _<_, _≤_}
+use Prim.Native.Nat.{ℕ, suc, _+_, _*_, _<_}
 use lib.ListN.{length, getD, set, length-set, length-append, List·getD-append}
 use lib.Seq.{getD-set-same, getD-set-other}
-use lib.Dec.{eqb}
-use lib.IntN.{ℤ, pos, _+ℤ_}
+use lib.IntN.{ℤ, _+ℤ_}
 use native.Mathlib.Omega.{arith}
 use native.Mathlib.Decide.{ℕ-discrete}
-use borrow.Author.Tests.{eqb-true, eqb-false}
 use Rattle.plane.specs.declared.point.Point64.{Point64}
-use Rattle.plane.specs.Basics.{if_then_else_, none, push}
-use Rattle.reference.specs.Arena.{Arena, pt-of, next-of, prev-of, owner-of, result-of, edge-list, set-next, set-prev, set-results, set-result, set-new-owner}
-use Rattle.reference.specs.Tidy.{Four, four-of, cw-is-toward-larger, relink, regroup}
-use Rattle.reference.specs.Demand.{area-step}
-use Rattle.theorems.proofs.RingLaw.{Link, Off, Distinct, Exchanged}
-use Rattle.theorems.proofs.RingSet.{RingOf, All, In}
-use Rattle.theorems.proofs.RingStep.{Lives, Core, Stepped, Owned, numbered, next-prev, prev-live, node-in, owner-is, split-step, join-step}
-use Rattle.theorems.proofs.TidyLinks.{level, coord, four, at, cw-exchange, ccw-exchange, exchanged-sym, Keeps, keeps-new, owned-new}
+use Rattle.plane.specs.Basics.{none, push}
+use Rattle.reference.specs.Arena.{Arena, pt-of, next-of, prev-of, owner-of, result-of, edge-list, set-results, set-result, set-new-owner}
+use Rattle.theorems.specs.Demand.{area-step}
+use Rattle.theorems.proofs.RingLaw.{Exchanged}
+use Rattle.theorems.proofs.RingLists.{RingOf, In}
+use Rattle.theorems.proofs.RingStep.{Lives, Core, Stepped, Owned, numbered, next-prev, split-step, join-step}
+use Rattle.theorems.proofs.TidyLinks.{level, coord, four, at, Keeps, keeps-new, owned-new}
 
 abbrev pub weight : List Point64 → ℕ → ℕ → ℤ
 weight pts i j = area-step (pt-of pts i) (pt-of pts j)

@@ -1,25 +1,27 @@
 -- What the stores of `tidy_edges` and the loop of `set_new_owner` do, over lists of links and owners.
-use mathlib.Core.Path.{_≡_, refl, sym, _∙_, ap, subst, subst₂}
+use mathlib.Core.Path.{_≡_, refl, sym, _∙_, ap, subst}
 use mathlib.Core.Bool.{Bool, true, false, cond, _||_}
-use mathlib.Core.List.{List, [], _∷_, _++_}
-use mathlib.Core.Logic.{⊎-elim, _⊎_, inl, inr}
-use Prim.Native.Nat.{ℕ, zero, suc, _+_, _*_, _-_, _<_, _≤_}
+use mathlib.Core.List.{List, [], _∷_}
+use mathlib.Core.Logic.{inl, inr}
+use Prim.Native.Nat.{ℕ, zero, suc, _-_, _<_, _≤_}
 use lib.ListN.{length, getD, set, length-set}
 use lib.Seq.{getD-set-same, getD-set-other}
 use lib.Dec.{eqb}
 use lib.IntN.{ℤ, pos, _+ℤ_, _-ℤ_, _*ℤ_}
 use native.Mathlib.Omega.{arith}
-use native.Mathlib.Decide.{ℕ-discrete, decLt}
+use native.Mathlib.Decide.{ℕ-discrete}
 use borrow.Author.Tests.{eq-eqb, ne-eqb}
-use Rattle.integers.specs.Ring.{Ex, var, _⊕_, _⊖_, _⊗_, ring}
+use Rattle.integers.specs.Ring.{var, _⊕_, _⊖_, _⊗_, ring}
 use Rattle.plane.specs.declared.point.Point64.{Point64}
 use Rattle.plane.specs.Basics.{none}
-use Rattle.reference.specs.Arena.{Arena, pt-of, next-of, prev-of, owner-of, set-owner, own-from, set-new-owner}
-use Rattle.reference.specs.Demand.{area-step}
-use Rattle.theorems.proofs.RingLaw.{Link, Chain, Ring, end, Off, Distinct, Exchanged}
+use Rattle.reference.specs.Arena.{Arena, next-of, prev-of, owner-of, set-owner, own-from, set-new-owner}
+use Rattle.theorems.specs.Demand.{area-step}
+use Rattle.theorems.proofs.RingLaw.{Chain, Ring, end, Off, Distinct, Exchanged}
 use Rattle.theorems.proofs.Pigeon.{pigeon, Below}
-use Rattle.theorems.proofs.RingSet.{RingOf, All, In, all-map, off-in, off-of, beginning}
+use Rattle.theorems.proofs.RingLists.{RingOf, All, In, all-map, off-in, off-of, all-in}
+use Rattle.theorems.proofs.RingSet.{beginning}
 use Rattle.theorems.proofs.RingStep.{Owned, Turned, turned, unturned}
+use Rattle.integers.specs.Tests.{cond-true, cond-false}
 
 -- ---- four points on one line
 four-x : (c y1 y2 y3 y4 : ℤ) → (c *ℤ y2 -ℤ c *ℤ y1) +ℤ (c *ℤ y4 -ℤ c *ℤ y3) ≡ (c *ℤ y4 -ℤ c *ℤ y1) +ℤ (c *ℤ y2 -ℤ c *ℤ y3)
@@ -130,14 +132,6 @@ own-list o (x ∷ xs) new = own-list (set o x new) xs new
 unfoldable with-owner : Arena → List ℕ → Arena
 with-owner a o = record { owner = o; edge = a .edge; next = a .next; prev = a .prev; results = a .results; edges = a .edges }
 
-cond-true : {A : Type 0} (b : Bool) (x y : A) → b ≡ true → cond b x y ≡ x
-cond-true true x y e = refl
-cond-true false x y e = let z : _≡_ {A = ℕ} 0 1 = cc in absurd (omega arith)
-
-cond-false : {A : Type 0} (b : Bool) (x y : A) → b ≡ false → cond b x y ≡ y
-cond-false false x y e = refl
-cond-false true x y e = let z : _≡_ {A = ℕ} 0 1 = cc in absurd (omega arith)
-
 own-stop : (left : ℕ) (a : Arena) (op op2 new : ℕ) → op2 ≡ op → own-from left a op op2 new ≡ a
 unfolding own-from
 own-stop zero a op op2 new e = refl
@@ -154,7 +148,7 @@ module _ (nx pv : ℕ → ℕ) (op new : ℕ) where
       ∙ ap (λ (z : ℕ). own-from (suc left) (set-owner a x new) op z new) (same x ∙ c .0 .fore)
       ∙ own-ring ys left (set-owner a x new) y same (omega arith) (off .1) (c .1) e
 
-below-of : (n : ℕ) (xs : List ℕ) → All (λ i. i < n) xs → Below n xs
+pub below-of : (n : ℕ) (xs : List ℕ) → All (λ i. i < n) xs → Below n xs
 below-of n [] h = tt
 below-of n (x ∷ xs) h = (h .0, below-of n xs (h .1))
 
@@ -198,6 +192,6 @@ owned-new n a op new zs len h r d b =
     let t = q .1 in
     let e = new-owner-ring n a op new xs (t .fine .ring) (t .fine .once) (all-map _ _ (op ∷ xs) (λ i l. l .0) (t .fine .own)) in
     record {
-      inner = λ i m. ap (λ (c : Arena). owner-of c i) e ∙ own-in (op ∷ xs) (a .owner) new i (subst (λ (k : ℕ). i < k) (sym len) (Rattle.theorems.proofs.RingSet.all-in _ i zs b m)) (t .back i m);
+      inner = λ i m. ap (λ (c : Arena). owner-of c i) e ∙ own-in (op ∷ xs) (a .owner) new i (subst (λ (k : ℕ). i < k) (sym len) (all-in _ i zs b m)) (t .back i m);
       outer = λ i m. ap (λ (c : Arena). owner-of c i) e ∙ own-off (op ∷ xs) (a .owner) new i (off-of i (op ∷ xs) (λ k. off-in i zs m (t .from i k)));
     }

@@ -1,31 +1,25 @@
 -- One turn of `tidy_edges` keeps the invariant, and so do all turns.
-use mathlib.Core.Path.{_≡_, refl, sym, _∙_, ap, subst, subst₂}
-use mathlib.Core.Bool.{Bool, true, false, cond, not, _&&_, _||_, Bool·beq}
-use mathlib.Core.List.{List, [], _∷_, _++_}
+use mathlib.Core.Path.{_≡_, refl, sym, _∙_, ap, subst}
+use mathlib.Core.Bool.{Bool, true, false, cond, not, Bool·beq}
+use mathlib.Core.List.{List, [], _∷_}
 use mathlib.Core.Logic.{⊎-elim, _⊎_, inl, inr}
-use Prim.Native.Nat.{ℕ, zero, suc, _+_, _*_, _-_, _<_, _≤_}
-use lib.ListN.{length, getD, set, drop, length-set}
-use lib.Seq.{getD-set-same, getD-set-other}
-use lib.Dec.{eqb, ltb, leb}
-use lib.IntN.{ℤ, pos, _+ℤ_}
-use lib.Signed.{ltZ}
+use Prim.Native.Nat.{ℕ, zero, suc, _+_, _*_, _<_}
+use lib.ListN.{length, getD, set, length-set}
+use lib.Dec.{eqb}
+use lib.IntN.{ℤ}
 use native.Mathlib.Omega.{arith}
-use native.Mathlib.Decide.{ℕ-discrete, decLt}
-use borrow.Author.Tests.{eqb-true, eqb-false, leb-false, ltb-true}
-use Rattle.integers.specs.Order.{zint}
-use Rattle.integers.specs.Tests.{ltZ-true}
+use borrow.Author.Tests.{eqb-true, eqb-false}
 use Rattle.plane.specs.declared.point.Point64.{Point64}
-use Rattle.plane.specs.Basics.{if_then_else_, none, push, Try, refuse, ok}
-use Rattle.reference.specs.Arena.{Arena, pt-of, next-of, prev-of, owner-of, edge-of, result-of, edge-list, set-next, set-prev, set-results, set-result, set-edge, set-edge-list, set-entry, set-new-owner, add-to-edge, struck, uncouple-edge}
-use Rattle.reference.specs.Tidy.{Four, Turn, turn, four-of, overlap, relink, regroup, is-stub, is-spent, is-larger, seek, keep-one, keep-both, keep-each, settle, rejoin, one-turn, turns-from, tidy-edges, cw-is-toward-larger}
-use Rattle.theorems.proofs.Holds.{Holds, refused, held}
+use Rattle.plane.specs.Basics.{none, push}
+use Rattle.reference.specs.Arena.{Arena, next-of, prev-of, owner-of, edge-of, edge-list, set-next, set-prev, set-results, set-result, set-edge, set-edge-list, set-entry, add-to-edge, struck, uncouple-edge}
+use Rattle.reference.specs.Tidy.{first-op, second-op, Turn, four-of, relink, regroup, is-spent, is-larger, keep-one, keep-both, keep-each, settle, cw-is-toward-larger}
 use Rattle.theorems.proofs.RingLaw.{Exchanged}
-use Rattle.theorems.proofs.RingSet.{In, in-append}
-use Rattle.theorems.proofs.RingStep.{Lives, Core, next-prev, prev-live, node-in, owner-is}
+use Rattle.theorems.proofs.RingLists.{In, in-append}
+use Rattle.theorems.proofs.RingStep.{next-prev, prev-live, node-in, owner-is}
 use Rattle.theorems.proofs.TidyLinks.{at, cw-exchange, ccw-exchange, exchanged-sym, keeps-new}
 use Rattle.theorems.proofs.TidyInv.{weight, Of, On, Inv, split-inv, join-inv}
 
--- ---- the split or rejoining, side by side
+-- ---- the split or rejoining
 module _ (pts : List Point64) (line : ℕ → ℤ) (sd : ℕ → ℕ) (A : ℤ) (a : Arena) (I : Inv pts line sd A a) (k r1 r2 : ℕ)
     (on1 : On pts line sd (prev-of a) (owner-of a) (I .rs) k r1) (on2 : On pts line sd (prev-of a) (owner-of a) (I .rs) k r2) (ne : r1 ≡ r2 → ⊥) where
   abbrev u : ℕ
@@ -88,56 +82,28 @@ module _ (pts : List Point64) (line : ℕ → ℤ) (sd : ℕ → ℕ) (A : ℤ) 
   len-two : (l : List ℕ) (i j v w : ℕ) → length l ≡ length pts → length (set (set l i v) j w) ≡ length pts
   len-two l i j v w e = length-set (set l i v) j w ∙ length-set l i v ∙ e
 
-  pub rejoined-0 : (t : Bool) → eqb (owner-of a r1) (owner-of a r2) ≡ t → (b : Arena) → b ≡ regroup pts 0 a (four-of pts 0 a r1 r2) (not t)
-      → Inv pts line sd A (set-result (set-result b (owner-of b r1) r1) (owner-of b r2) r2)
+  -- The split or rejoining and the two new results keep the invariant, whichever way round the side goes (c): the four stores exchange the
+  -- nodes before r1 and r2, which lie on one line, so the total area stays; only the ring that gets the new owner differs.
+  pub rejoined : (c t : Bool) → eqb (owner-of a r1) (owner-of a r2) ≡ t → (b : Arena) → b ≡ regroup c (length pts) a (four-of c a r1 r2) (not t)
+      → Inv pts line sd A (set-result (set-result b (owner-of b (first-op c (four-of c a r1 r2))) (first-op c (four-of c a r1 r2))) (owner-of b (second-op c (four-of c a r1 r2))) (second-op c (four-of c a r1 r2)))
   unfolding regroup relink set-next set-prev set-results
-  rejoined-0 true e b q =
+  rejoined false true e b q =
       subst (λ (c : Arena). Inv pts line sd A (set-result (set-result c (owner-of c r1) r1) (owner-of c r2) r2)) (sym q)
       (split-inv pts line sd A a I k r2 r1 on2 on1 (λ z. ne (sym z)) Nccw Pccw (exchanged-sym (next-of a) (prev-of a) (at Nccw) (at Pccw) u v Xccw) (len-two (a .next) v u r1 r2 (I .nexts)) (len-two (a .prev) r1 r2 v u (I .prevs)) u (inr refl) (eqb-true _ _ e))
-  rejoined-0 false e b q =
+  rejoined false false e b q =
       let K = keeps-new (length pts) (set-result a (owner-of a v) none) v (owner-of a r1) in
       join-inv pts line sd A a I k r1 r2 on1 on2 ne Nccw Pccw Xccw (len-two (a .next) v u r1 r2 (I .nexts)) (len-two (a .prev) r1 r2 v u (I .prevs))
       v (owner-of a v) (owner-of a r1) r1 r2 (inr refl) (eqb-false _ _ e) own-v refl (inl refl) (inr refl) b
       (ap (λ (c : Arena). c .next) q ∙ ap (λ (l : List ℕ). set (set l v r1) u r2) (K .next)) (ap (λ (c : Arena). c .prev) q ∙ ap (λ (l : List ℕ). set (set l r1 v) r2 u) (K .prev))
       (ap (λ (c : Arena). c .owner) q) (ap (λ (c : Arena). c .results) q) (ap (λ (c : Arena). c .edges) q ∙ K .edges)
-
-  pub rejoined-1 : (t : Bool) → eqb (owner-of a r1) (owner-of a r2) ≡ t → (b : Arena) → b ≡ regroup pts 1 a (four-of pts 1 a r1 r2) (not t)
-      → Inv pts line sd A (set-result (set-result b (owner-of b r2) r2) (owner-of b r1) r1)
-  unfolding regroup relink set-next set-prev set-results
-  rejoined-1 true e b q =
+  rejoined true true e b q =
       subst (λ (c : Arena). Inv pts line sd A (set-result (set-result c (owner-of c r2) r2) (owner-of c r1) r1)) (sym q)
       (split-inv pts line sd A a I k r1 r2 on1 on2 ne Ncw Pcw Xcw (len-two (a .next) u v r2 r1 (I .nexts)) (len-two (a .prev) r2 r1 u v (I .prevs)) r1 (inl refl) (sym (eqb-true _ _ e)))
-  rejoined-1 false e b q =
+  rejoined true false e b q =
       let K = keeps-new (length pts) (set-result a (owner-of a r2) none) r2 (owner-of a u) in
       join-inv pts line sd A a I k r1 r2 on1 on2 ne Ncw Pcw Xcw (len-two (a .next) u v r2 r1 (I .nexts)) (len-two (a .prev) r2 r1 u v (I .prevs))
       r2 (owner-of a r2) (owner-of a u) r2 r1 (inl refl) (eqb-false _ _ e) refl own-u (inr refl) (inl refl) b
       (ap (λ (c : Arena). c .next) q ∙ ap (λ (l : List ℕ). set (set l u r2) v r1) (K .next)) (ap (λ (c : Arena). c .prev) q ∙ ap (λ (l : List ℕ). set (set l r2 u) r1 v) (K .prev))
-      (ap (λ (c : Arena). c .owner) q) (ap (λ (c : Arena). c .results) q) (ap (λ (c : Arena). c .edges) q ∙ K .edges)
-
-  pub rejoined-2 : (t : Bool) → eqb (owner-of a r1) (owner-of a r2) ≡ t → (b : Arena) → b ≡ regroup pts 2 a (four-of pts 2 a r1 r2) (not t)
-      → Inv pts line sd A (set-result (set-result b (owner-of b r2) r2) (owner-of b r1) r1)
-  unfolding regroup relink set-next set-prev set-results
-  rejoined-2 true e b q =
-      subst (λ (c : Arena). Inv pts line sd A (set-result (set-result c (owner-of c r2) r2) (owner-of c r1) r1)) (sym q)
-      (split-inv pts line sd A a I k r1 r2 on1 on2 ne Ncw Pcw Xcw (len-two (a .next) u v r2 r1 (I .nexts)) (len-two (a .prev) r2 r1 u v (I .prevs)) r1 (inl refl) (sym (eqb-true _ _ e)))
-  rejoined-2 false e b q =
-      let K = keeps-new (length pts) (set-result a (owner-of a r2) none) r2 (owner-of a u) in
-      join-inv pts line sd A a I k r1 r2 on1 on2 ne Ncw Pcw Xcw (len-two (a .next) u v r2 r1 (I .nexts)) (len-two (a .prev) r2 r1 u v (I .prevs))
-      r2 (owner-of a r2) (owner-of a u) r2 r1 (inl refl) (eqb-false _ _ e) refl own-u (inr refl) (inl refl) b
-      (ap (λ (c : Arena). c .next) q ∙ ap (λ (l : List ℕ). set (set l u r2) v r1) (K .next)) (ap (λ (c : Arena). c .prev) q ∙ ap (λ (l : List ℕ). set (set l r2 u) r1 v) (K .prev))
-      (ap (λ (c : Arena). c .owner) q) (ap (λ (c : Arena). c .results) q) (ap (λ (c : Arena). c .edges) q ∙ K .edges)
-
-  pub rejoined-3 : (t : Bool) → eqb (owner-of a r1) (owner-of a r2) ≡ t → (b : Arena) → b ≡ regroup pts 3 a (four-of pts 3 a r1 r2) (not t)
-      → Inv pts line sd A (set-result (set-result b (owner-of b r1) r1) (owner-of b r2) r2)
-  unfolding regroup relink set-next set-prev set-results
-  rejoined-3 true e b q =
-      subst (λ (c : Arena). Inv pts line sd A (set-result (set-result c (owner-of c r1) r1) (owner-of c r2) r2)) (sym q)
-      (split-inv pts line sd A a I k r2 r1 on2 on1 (λ z. ne (sym z)) Nccw Pccw (exchanged-sym (next-of a) (prev-of a) (at Nccw) (at Pccw) u v Xccw) (len-two (a .next) v u r1 r2 (I .nexts)) (len-two (a .prev) r1 r2 v u (I .prevs)) u (inr refl) (eqb-true _ _ e))
-  rejoined-3 false e b q =
-      let K = keeps-new (length pts) (set-result a (owner-of a v) none) v (owner-of a r1) in
-      join-inv pts line sd A a I k r1 r2 on1 on2 ne Nccw Pccw Xccw (len-two (a .next) v u r1 r2 (I .nexts)) (len-two (a .prev) r1 r2 v u (I .prevs))
-      v (owner-of a v) (owner-of a r1) r1 r2 (inr refl) (eqb-false _ _ e) own-v refl (inl refl) (inr refl) b
-      (ap (λ (c : Arena). c .next) q ∙ ap (λ (l : List ℕ). set (set l v r1) u r2) (K .next)) (ap (λ (c : Arena). c .prev) q ∙ ap (λ (l : List ℕ). set (set l r1 v) r2 u) (K .prev))
       (ap (λ (c : Arena). c .owner) q) (ap (λ (c : Arena). c .results) q) (ap (λ (c : Arena). c .edges) q ∙ K .edges)
 
 -- ---- edge lists: only entries change
@@ -254,22 +220,22 @@ module _ (O : ℕ → ℕ → Type 0) (a : Arena) where
     fine-one : (b : Arena) (i j op : ℕ) → Fine O a b → O k op → Fine O a (keep-one pts k b i j op .arena)
     unfolding keep-one
     fine-one b i j op F h =
-        fine-turn (Bool·beq (is-larger pts k b op) (cw-is-toward-larger pts k)) _ _
+        fine-turn (Bool·beq (is-larger pts k b op) (cw-is-toward-larger k)) _ _
         (fine-entry _ k (k * 2 + 1) j none (fine-entry b k (k * 2) i op F cw (inr h)) ccw (inl refl))
         (fine-entry _ k (k * 2) i none (fine-entry b k (k * 2 + 1) j op F ccw (inr h)) cw (inl refl))
 
     fine-both : (b : Arena) (i j op op2 : ℕ) → Fine O a b → O k op → O k op2 → Fine O a (keep-both pts k b i j op op2 .arena)
     unfolding keep-both
     fine-both b i j op op2 F h g =
-        fine-turn (Bool·beq (is-larger pts k b op) (cw-is-toward-larger pts k)) _ _
+        fine-turn (Bool·beq (is-larger pts k b op) (cw-is-toward-larger k)) _ _
         (fine-entry _ k (k * 2 + 1) j none (fine-add _ k (k * 2) op2 (fine-uncouple _ op2 (fine-entry b k (k * 2) i op F cw (inr h))) cw g) ccw (inl refl))
         (fine-add _ k (k * 2 + 1) op (fine-uncouple _ op (fine-entry _ k (k * 2 + 1) j op2 (fine-entry b k (k * 2) i none F cw (inl refl)) ccw (inr g))) ccw h)
 
     fine-each : (b : Arena) (i j op op2 : ℕ) → Fine O a b → O k op → O k op2 → Fine O a (keep-each pts k b i j op op2 .arena)
     unfolding keep-each
     fine-each b i j op op2 F h g =
-        let G = fine-cond (Bool·beq (is-larger pts k b op) (cw-is-toward-larger pts k)) _ _ (fine-entry b k (k * 2) i op F cw (inr h)) (fine-entry b k (k * 2 + 1) j op F ccw (inr h)) in
-        fine-cond (Bool·beq (is-larger pts k b op2) (cw-is-toward-larger pts k)) _ _ (fine-entry _ k (k * 2) i op2 G cw (inr g)) (fine-entry _ k (k * 2 + 1) j op2 G ccw (inr g))
+        let G = fine-cond (Bool·beq (is-larger pts k b op) (cw-is-toward-larger k)) _ _ (fine-entry b k (k * 2) i op F cw (inr h)) (fine-entry b k (k * 2 + 1) j op F ccw (inr h)) in
+        fine-cond (Bool·beq (is-larger pts k b op2) (cw-is-toward-larger k)) _ _ (fine-entry _ k (k * 2) i op2 G cw (inr g)) (fine-entry _ k (k * 2 + 1) j op2 G ccw (inr g))
 
     pub fine-settle : (b : Arena) (i j op op2 : ℕ) → Fine O a b → O k op → O k op2 → Fine O a (settle pts k b i j op op2 .arena)
     unfolding settle

@@ -1,23 +1,22 @@
 -- A walk with limited lists either runs out of room, or is the walk with unlimited ones: what a call walks is the walked outline.
-use mathlib.Core.Path.{_≡_, refl, sym, ap, _∙_, subst}
+use mathlib.Core.Path.{_≡_}
 use mathlib.Core.Bool.{Bool, true, false, cond, not, _&&_, _||_}
-use mathlib.Core.List.{List, [], _∷_, _++_}
-use Prim.Native.Nat.{ℕ, zero, suc, _+_, _-_, _*_}
+use mathlib.Core.List.{List, [], _∷_}
+use Prim.Native.Nat.{ℕ, zero, suc, _+_, _-_}
 use native.Mathlib.Omega.{arith}
 use lib.ListN.{length, drop}
-use lib.Dec.{leb, ltb, eqb}
+use lib.Dec.{leb, ltb}
 use Rattle.plane.specs.declared.point.Point64.{Point64}
 use Rattle.plane.specs.declared.rect.Rect64.{Rect64}
 use Rattle.plane.specs.declared.location.Location.{Location}
 use Rattle.plane.specs.declared.location.Location.the-variants.{Left, Top, Right, Bottom, Inside}
 use Rattle.plane.specs.declared.crossing.Search.{Search}
 use Rattle.plane.specs.declared.crossing.Search.the-variants.{Missed, Found}
-use Rattle.plane.specs.Basics.{if_then_else_, push, is-nil, Try, refuse, ok, _>>=_}
-use Rattle.plane.specs.Locations.{side, same-location, get-adjacent-location, heading-clockwise, start-locs-are-clockwise, is-inside}
+use Rattle.plane.specs.Basics.{if_then_else_, is-nil, Try, refuse, ok, _>>=_}
+use Rattle.plane.specs.Locations.{side, same-location, get-adjacent-location, heading-clockwise, is-inside}
 use Rattle.plane.specs.Points.{pt-at, same-point}
 use Rattle.plane.specs.Rectangle.{get-location, mid-point, contains-point, get-bounds-path, as-path, corner, beyond}
 use Rattle.plane.specs.Intersection.{get-intersection}
-use Rattle.plane.specs.Signs.{is-clockwise-dir}
 use Rattle.plane.specs.Polygon.{path1-contains-path2}
 use Rattle.reference.specs.Walk.{Walk, unlimited, nothing-yet, add, add-all, push-start-loc, Next, add-corner-prev-curr, add-corner-loc, add-corners, push-start-locs, next-inside, next-outside, next-side, get-next-location, State, Pass, Walked, remain-outside, enter, pass-to, pass-through, leave, cross-boundary, pt-before, pass-from, passes, last-off, add-round, surround, retrace, close-outline, after-while, walk-from, walk-closed, walked-outline}
 

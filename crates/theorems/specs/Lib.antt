@@ -1,1 +1,5 @@
--- No definitions of its own.
+-- What is proved of the definition. Statements only; their proofs are in proofs/.
+pub mod Demand
+pub mod Bounds
+pub mod LoopsEnd
+pub mod Sizes

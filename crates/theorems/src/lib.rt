@@ -1,1 +1,1 @@
-// Theorems about the definition: proofs/ is the content of the crate, and it has no code.
+// Theorems about the definition: statements in specs/, proofs in proofs/. The crate has no code.
