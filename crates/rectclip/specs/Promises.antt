@@ -11,7 +11,7 @@ use Rattle.plane.specs.Basics.{Try, ok, _>>=_}
 use Rattle.plane.specs.Limit.{all-in-limit, rect-in-limit}
 use Rattle.plane.specs.Points.{points-of, coordinates-of}
 use Rattle.plane.specs.Rectangle.{get-bounds-path}
-use Rattle.reference.specs.Demand.{Sourced}
+use Rattle.theorems.specs.Demand.{Sourced}
 use Rattle.reference.specs.Entry.{Drawing, Lent, After, joined, delivered, answered, clip-open, filled-part}
 use Rattle.reference.specs.Lines.{execute-lines}
 use Rattle.reference.specs.Walk.{no-room}
