@@ -18,7 +18,7 @@ use Rattle.plane.specs.Points.{points-of, coordinates-of}
 use Rattle.plane.specs.Rectangle.{is-empty, intersects, get-bounds-path}
 use Rattle.reference.specs.Walk.{Walk, no-room}
 use Rattle.reference.specs.Lines.{pieces, longer-than-one, walk-open, execute-lines}
-use Rattle.reference.specs.Demand.{Sourced}
+use Rattle.theorems.specs.Demand.{Sourced}
 use Rattle.reference.specs.Entry.{Outcome, refused, drawn, Drawing, Lent, After, joined, filled, cleared, delivered, answered, early-refusal, sheet-refusal, clip-open, filled-part}
 use Rattle.theorems.proofs.Demand.{open-sourced}
 use Rattle.rectclip.specs.declared.answer.Answer.{Answer}

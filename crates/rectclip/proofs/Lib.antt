@@ -25,13 +25,3 @@ pub mod Results
 pub mod Writing
 pub mod Delivering
 pub mod Entering
-pub mod Searches
-pub mod PathBounds
-pub mod Sheets
-pub mod Scans
-pub mod ScanSteps
-pub mod ScanPasses
-pub mod Polygons
-pub mod Passing
-pub mod Crossing
-pub mod Opening

@@ -3,14 +3,9 @@ pub mod Answers
 pub mod Bounds
 pub mod Parted
 pub mod Memory
-pub mod Bounds
-pub mod Parted
 pub mod Walking
 pub mod Moving
 pub mod Scanned
-pub mod Memory
-pub mod Walking
-pub mod Moving
 pub mod Crossing
 pub mod Pieces
 pub mod Promises

@@ -6,6 +6,7 @@ mod line_walk;
 pub mod lines;
 mod lists;
 mod next;
+pub mod part;
 mod pieces;
 mod polygon;
 pub mod present;
