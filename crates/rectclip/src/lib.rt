@@ -10,7 +10,7 @@ pub mod part;
 mod pieces;
 mod polygon;
 pub mod present;
-pub mod refusals;
+mod refusals;
 mod search;
 mod segment;
 mod survey;
