@@ -7,8 +7,6 @@ use Rattle.rectclip.proofs.Delivering.{part-held, part-none}
 use borrow.Author.Needs.{needs}
 use Rattle.rectclip.proofs.part.filled.Statement.{statement}
 use Rattle.rectclip.proofs.part.filled.Tie as tie
-use Rattle.rectclip.proofs.part.filled.Reads as reads
-use Rattle.rectclip.proofs.part.filled.Lts as lts
 
 mul-end : tie.Need-mul-end
 mul-end c = search needs
