@@ -3,9 +3,9 @@
 use mathlib.Core.Path.{_≡_, refl, sym, _∙_, ap}
 use mathlib.Core.Bool.{Bool, true, false, _||_}
 use mathlib.Core.List.{List, [], _∷_, _++_, map}
-use Prim.Native.Nat.{ℕ, zero, suc, _+_, _*_, _<_, _≤_}
+use Prim.Native.Nat.{ℕ, zero, suc, _+_, _*_, _/_, _<_, _≤_}
 use native.Mathlib.Omega.{arith}
-use borrow.Author.Tests.{lt-ltb, le-ltb, le-leb}
+use borrow.Author.Tests.{lt-ltb, le-ltb, le-leb, lt-leb}
 use lib.Dec.{ltb}
 use lib.IntN.{ℤ}
 use lib.ListN.{length, take, drop, length-map, length-append}
@@ -81,3 +81,12 @@ module _ {store : List ℤ} {work : List ℕ} {s : WalkState} (F : Fits store wo
 
     pub counts-fit : (t .paths < 4294967296) × (t .points < 4294967296)
     counts-fit = (omega (arith, T .few, F .starts, F .points, F .few), omega (arith, T .within, F .points, F .few))
+
+-- ---- the filled part, as the code tests it: half the length against the number of points
+pub part-held : (coordinates : List ℤ) (points : ℕ) → points ≤ length coordinates / 2 → take (2 * points) coordinates ≡ filled-part coordinates points
+unfolding filled-part
+part-held coordinates points h = rw (le-leb (2 * points) (length coordinates) (omega arith)) refl
+
+pub part-none : (coordinates : List ℤ) (points : ℕ) → length coordinates / 2 < points → take 0 coordinates ≡ filled-part coordinates points
+unfolding filled-part
+part-none coordinates points h = rw (lt-leb (2 * points) (length coordinates) (omega arith)) refl

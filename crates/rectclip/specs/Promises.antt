@@ -41,6 +41,11 @@ pub record ClipsOpen (rect : Rect64) (path : List ℤ) (before : Lent) (r : Answ
   pub work : after .work ≡ clip-open rect path before .lists .work
   pub returned : (c : Counts) → r ≡ Drawn c → Returned false rect path c after
 
+-- `filled`: the part is the definition's, and it is the front of the caller's own list, at that list's address
+pub record FilledPart {A : Type 0} (coordinates : List ℤ) (address : A) (points : ℕ) (part : List ℤ) (place : A) : Type 0 where
+  pub entries : part ≡ filled-part coordinates points
+  pub own : place ≡ address
+
 -- ---- words of the private functions
 -- the answer and the two lists that are filled are those of a definition's call
 pub record Leaves (a : After) (r : Answer) (coordinates : List ℤ) (lengths : List ℕ) : Type 0 where

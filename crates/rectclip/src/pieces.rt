@@ -73,11 +73,11 @@ pub(crate) fn write_pieces(
     requires { ⌜ Writes (now store) (now work) s (now coordinates) (now lengths) ⌝ }
     ensures { λ _. ⌜ Written (paths-of (walk-of (now (store .entry)) (now (work .entry)) s)) (now (coordinates .entry)) (now (lengths .entry)) (now (coordinates .exit)) (now (lengths .exit)) ⌝ }
 {
-    let starts = s.starts;
+    let results = s.starts;
     let mut paths: usize = 0;
     let mut points: usize = 0;
     let mut j = 0;
-    while j < starts {
+    while j < results {
         let from = start_of(work, s, j);
         j += 1;
         let to = start_of(work, s, j);

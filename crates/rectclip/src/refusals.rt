@@ -11,9 +11,9 @@ use crate::survey::sheet_refusal;
 use plane::rect::Rect64;
 
 // The most points that a store may have room for, and the largest turn allowance.
-pub const MAX_ROOM: usize = 65536;
+const MAX_ROOM: usize = 65536;
 
-pub const MAX_ALLOWANCE: usize = 65535;
+const MAX_ALLOWANCE: usize = 65535;
 
 // Refusals 1 to 7, in number order: for a store with room for so many points, a turn allowance, and a work list of so many cells.
 pub(crate) fn early_refusal(

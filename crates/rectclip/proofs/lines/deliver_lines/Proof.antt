@@ -5,10 +5,6 @@ use Rattle.rectclip.proofs.Delivering.{refused-coordinates, refused-len
 use borrow.Author.Needs.{needs}
 use Rattle.rectclip.proofs.lines.deliver_lines.Statement.{statement}
 use Rattle.rectclip.proofs.lines.deliver_lines.Tie as tie
-use Rattle.rectclip.proofs.lines.deliver_lines.Reads as reads
-use Rattle.rectclip.proofs.lines.deliver_lines.Lts as lts
-use Rattle.rectclip.proofs.pieces.count_pieces.Reads as count-pieces-reads
-use Rattle.rectclip.proofs.pieces.write_pieces.Reads as write-pieces-reads
 
 count-pieces-requires : tie.Need-count-pieces-requires
 count-pieces-requires c κs = search needs

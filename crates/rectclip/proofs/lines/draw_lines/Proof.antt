@@ -9,13 +9,6 @@ use Rattle.rectclip.proofs.Entering.{line-empty, line-missed, line-walk
 use borrow.Author.Needs.{needs}
 use Rattle.rectclip.proofs.lines.draw_lines.Statement.{statement}
 use Rattle.rectclip.proofs.lines.draw_lines.Tie as tie
-use Rattle.rectclip.proofs.lines.draw_lines.Reads as reads
-use Rattle.rectclip.proofs.lines.draw_lines.Lts as lts
-use Rattle.plane.proofs.rect.Rect64.intersects.Reads as intersects-reads
-use Rattle.plane.proofs.rect.Rect64.is_empty.Reads as is-empty-reads
-use Rattle.rectclip.proofs.line_walk.line_walk.Reads as line-walk-reads
-use Rattle.rectclip.proofs.lines.deliver_lines.Reads as deliver-lines-reads
-use Rattle.rectclip.proofs.lines.no_paths.Reads as no-paths-reads
 
 is-empty-requires : tie.Need-is-empty-requires
 is-empty-requires c κs = search needs

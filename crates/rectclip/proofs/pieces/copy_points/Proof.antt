@@ -6,10 +6,6 @@ use Rattle.rectclip.proofs.Writing.{Copying, copying-none, copying-more
 use borrow.Author.Needs.{needs}
 use Rattle.rectclip.proofs.pieces.copy_points.Statement.{statement}
 use Rattle.rectclip.proofs.pieces.copy_points.Tie as tie
-use Rattle.rectclip.proofs.pieces.copy_points.Reads as reads
-use Rattle.rectclip.proofs.pieces.copy_points.Lts as lts
-use Rattle.rectclip.proofs.lists.point_at.Reads as point-at-reads
-use Rattle.rectclip.proofs.lists.put_point.Reads as put-point-reads
 
 abbrev Inv-loop : tie.InvT-loop
 Inv-loop store from to list₀ at i₀ k₀ list i k = Copying store from to at list₀ list i k

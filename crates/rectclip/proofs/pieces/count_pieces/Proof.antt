@@ -6,9 +6,6 @@ use Rattle.rectclip.proofs.Results.{Counting, counting-none, count-more
 use borrow.Author.Needs.{needs}
 use Rattle.rectclip.proofs.pieces.count_pieces.Statement.{statement}
 use Rattle.rectclip.proofs.pieces.count_pieces.Tie as tie
-use Rattle.rectclip.proofs.pieces.count_pieces.Reads as reads
-use Rattle.rectclip.proofs.pieces.count_pieces.Lts as lts
-use Rattle.rectclip.proofs.pieces.start_of.Reads as start-of-reads
 
 abbrev Inv-loop : tie.InvT-loop
 Inv-loop store work s starts paths₀ points₀ j₀ paths points j = Counting store work s paths points j

@@ -4,9 +4,6 @@ use borrow.Author.Tests.{lt-ltb, le-ltb}
 use borrow.Author.Needs.{needs}
 use Rattle.rectclip.proofs.pieces.start_of.Statement.{statement}
 use Rattle.rectclip.proofs.pieces.start_of.Tie as tie
-use Rattle.rectclip.proofs.pieces.start_of.Reads as reads
-use Rattle.rectclip.proofs.pieces.start_of.Lts as lts
-use Rattle.rectclip.proofs.lists.get.Reads as get-reads
 
 get-requires : tie.Need-get-requires
 get-requires c κs = search needs

@@ -7,10 +7,6 @@ use Rattle.rectclip.proofs.Writing.{Writing, writing-none, writes-piece
 use borrow.Author.Needs.{needs}
 use Rattle.rectclip.proofs.pieces.write_pieces.Statement.{statement}
 use Rattle.rectclip.proofs.pieces.write_pieces.Tie as tie
-use Rattle.rectclip.proofs.pieces.write_pieces.Reads as reads
-use Rattle.rectclip.proofs.pieces.write_pieces.Lts as lts
-use Rattle.rectclip.proofs.pieces.copy_points.Reads as copy-points-reads
-use Rattle.rectclip.proofs.pieces.start_of.Reads as start-of-reads
 
 abbrev Inv-loop : tie.InvT-loop
 Inv-loop store work s coordinates₀ lengths₀ starts paths₀ points₀ j₀ coordinates lengths paths points j = Writing store work s coordinates₀ lengths₀ coordinates lengths paths points j

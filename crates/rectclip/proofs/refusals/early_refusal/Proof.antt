@@ -4,9 +4,6 @@ use Rattle.rectclip.proofs.Entering.{even-of, early-odd, early-store, e
 use borrow.Author.Needs.{needs}
 use Rattle.rectclip.proofs.refusals.early_refusal.Statement.{statement}
 use Rattle.rectclip.proofs.refusals.early_refusal.Tie as tie
-use Rattle.rectclip.proofs.refusals.early_refusal.Reads as reads
-use Rattle.rectclip.proofs.refusals.early_refusal.Lts as lts
-use Rattle.rectclip.proofs.survey.sheet_refusal.Reads as sheet-refusal-reads
 
 returns : tie.Need-returns
 returns c = let s : tie.Start = search in early-odd (s .args .room) (s .args .allowance) (s .args .cells) (s .args .rect) (s .args .path .now) (c .if1 .taken)

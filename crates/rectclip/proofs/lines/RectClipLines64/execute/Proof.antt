@@ -4,13 +4,6 @@ use Rattle.rectclip.proofs.Entering.{refused-early, drawable, clipped}
 use borrow.Author.Needs.{needs}
 use Rattle.rectclip.proofs.lines.RectClipLines64.execute.Statement.{statement}
 use Rattle.rectclip.proofs.lines.RectClipLines64.execute.Tie as tie
-use Rattle.rectclip.proofs.lines.RectClipLines64.execute.Reads as reads
-use Rattle.rectclip.proofs.lines.RectClipLines64.execute.Lts as lts
-use Rattle.rectclip.proofs.lines.draw_lines.Reads as draw-lines-reads
-use Rattle.rectclip.proofs.lists.clear_store.Reads as clear-store-reads
-use Rattle.rectclip.proofs.lists.clear_work.Reads as clear-work-reads
-use Rattle.rectclip.proofs.refusals.early_refusal.Reads as early-refusal-reads
-use Rattle.rectclip.proofs.survey.get_bounds_path.Reads as get-bounds-path-reads
 
 get-bounds-path-requires : tie.Need-get-bounds-path-requires
 get-bounds-path-requires c κs = search needs
