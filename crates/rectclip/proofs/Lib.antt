@@ -11,6 +11,9 @@ pub mod Adding
 pub mod Turning
 pub mod Scanning
 pub mod Moving
+pub mod Closing
+pub mod ClosedPass
+pub mod ClosedPasses
 pub mod Searches
 pub mod PathBounds
 pub mod Sheets

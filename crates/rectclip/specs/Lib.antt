@@ -4,4 +4,5 @@ pub mod Bounds
 pub mod Parted
 pub mod Walking
 pub mod Moving
+pub mod Closing
 pub mod Answers
