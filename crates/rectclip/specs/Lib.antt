@@ -5,4 +5,6 @@ pub mod Parted
 pub mod Walking
 pub mod Moving
 pub mod Closing
+pub mod Scanned
 pub mod Answers
+pub mod Crossing

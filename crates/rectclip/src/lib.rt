@@ -3,8 +3,10 @@
 pub mod answer;
 mod closed;
 mod corners;
+mod line_walk;
 mod lists;
 mod next;
+mod polygon;
 pub mod present;
 mod search;
 mod segment;

@@ -11,6 +11,7 @@ use Rattle.plane.specs.Points.{pt-at}
 use Rattle.plane.specs.Locations.{side}
 use Rattle.plane.specs.Signs.{is-collinear, is-heading-clockwise}
 use Rattle.plane.specs.Rectangle.{get-edges-for-pt, has-edge}
+use Rattle.reference.specs.Counts.{drop-passes, ring-passes}
 
 -- Entry i of the first four lists is the node i: `arena[i].owner_idx`, `.edge_idx`, `.next`, `.prev`. `none` stands for `None`.
 -- The nodes' points, `arena[i].pt`, do not change after the walk: they are the parameter `pts`.
@@ -173,9 +174,9 @@ module _ (pts : List Point64) where
   -- the ring of result r, one that is not `none`
   unfoldable pub check-ring : Rect64 → Arena → ℕ → Arena
   check-ring rect a r =
-      let s = drop-collinear (2 * length pts + 1) a (result-of a r) (result-of a r) in
+      let s = drop-collinear (drop-passes (length pts)) a (result-of a r) (result-of a r) in
       let b = set-result (s .arena) r (s .op) in
-      let assigned = assign-edges (length pts) rect b (s .op) (s .op) (get-edges-for-pt (pt-of pts (prev-of b (s .op))) rect) in
+      let assigned = assign-edges (ring-passes (length pts)) rect b (s .op) (s .op) (get-edges-for-pt (pt-of pts (prev-of b (s .op))) rect) in
       if eqb (s .op2) none then set-result (s .arena) r none else assigned
 
   -- `for i in 0..self.results.len()`

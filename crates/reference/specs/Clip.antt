@@ -11,6 +11,7 @@ use Rattle.plane.specs.Rectangle.{is-empty, intersects, contains-rect, get-boun
 use Rattle.reference.specs.Walk.{Walked, walk-closed}
 use Rattle.reference.specs.Arena.{Arena, pt-of, next-of, prev-of, result-of, set-result, ring, add-to-edge, unlink, unlink-op, is-flat, Round, check-edges}
 use Rattle.reference.specs.Tidy.{is-stub, tidy-edges}
+use Rattle.reference.specs.Counts.{straighten-passes, ring-passes}
 
 -- the arena that the walk leaves
 unfoldable pub enter-all : Arena → List (ℕ × ℕ) → Arena
@@ -48,10 +49,10 @@ module _ (pts : List Point64) where
   -- the arena, the result's node afterwards, and the path
   unfoldable pub get-path : Arena → ℕ → Arena × ℕ × List Point64
   get-path a op-start =
-      let s = straighten (length pts * length pts) a op-start (next-of a op-start) in
+      let s = straighten (straighten-passes (length pts)) a op-start (next-of a op-start) in
       let start = s .op2 in
       let b = s .arena in
-      let read : Arena × ℕ × List Point64 = (b, start, pt-of pts start ∷ points-from (length pts) b start (next-of b start)) in
+      let read : Arena × ℕ × List Point64 = (b, start, pt-of pts start ∷ points-from (ring-passes (length pts)) b start (next-of b start)) in
       let emptied : Arena × ℕ × List Point64 = (b, none, []) in
       let straightened = if eqb start none then emptied else if is-stub b start then emptied else read in
       if eqb op-start none then (a, none, [])

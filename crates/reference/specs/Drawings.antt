@@ -2,7 +2,7 @@
 -- Rows 1 and 2 are the clip program's example too. One theorem, by computation.
 use mathlib.Core.Path.{_≡_, refl}
 use mathlib.Core.Bool.{Bool, true, false}
-use mathlib.Core.List.{List, [], _∷_, map}
+use mathlib.Core.List.{List, [], _∷_, _++_, map}
 use Prim.Native.Nat.{ℕ, suc, _-_, _*_}
 use lib.ListN.{replicate}
 use lib.IntN.{ℤ, pos, negsuc, negℤ}
@@ -100,7 +100,16 @@ table =
     (returned 1 2 (pos 0 ∷ pos 0 ∷ pos 100 ∷ pos 0 ∷ pos 7 ∷ pos 7 ∷ pos 7 ∷ pos 7 ∷ pos 7 ∷ pos 7 ∷ []) (2 ∷ 7 ∷ [])) ∷
     []
 
+-- where renderings went wrong: `check_edges` keeps two equal neighbours; both searches of a passing segment find one point, and its side's corner is added
+abbrev further : List Case
+further =
+    C (R (pos 0) (pos 0) (pos 2) (pos 2)) (minus 1 ∷ pos 0 ∷ pos 0 ∷ pos 1 ∷ pos 1 ∷ pos 0 ∷ [])
+    (returned 1 3 (pos 0 ∷ pos 0 ∷ pos 0 ∷ pos 1 ∷ pos 1 ∷ pos 0 ∷ replicate 4 (pos 7)) (3 ∷ 7 ∷ [])) ∷
+    C (R (pos 0) (pos 0) (pos 1) (pos 1)) (minus 1 ∷ pos 0 ∷ pos 0 ∷ minus 1 ∷ pos 1 ∷ pos 0 ∷ [])
+    (drawn 0 0 1, replicate 10 (pos 7), replicate 2 7) ∷
+    []
+
 -- each drawing is answered as document 01 says
-pub drawings : map shown table ≡ map (λ c. c .expected) table
+pub drawings : map shown (table ++ further) ≡ map (λ c. c .expected) (table ++ further)
 unfolding at-end get-segment-intersection edge-intersection side-intersection get-intersection start-locs-are-clockwise at-vertex scan-pass scan-answer scan-loop point-in-polygon path1-contains-path2 get-bounds-path get-location determinant numerator fraction workingOf crossingOf pointAt intersection cross-product-sign is-collinear cross-product-is-negative is-clockwise-dir set-owner set-edge set-next set-prev set-results set-edge-list ring unlink add-to-edge struck uncouple-edge own-from set-new-owner drop-collinear-pass drop-collinear assign-side assign-edges check-ring check-from check-edges enter-all arena-of straighten-pass straighten points-from get-path get-paths clip-walked execute sheet-refusal early-refusal delivered answered clip-closed clip-open filled-part is-present first-off-edge line-through line-cross line-from line-passes line-walk-from walk-open pieces longer-than-one execute-lines seek relink regroup keep-one keep-both keep-each settle rejoin one-turn turns-from tidy-edges add add-all push-start-loc next-side next-outside add-corner-prev-curr add-corner-loc add-corners push-start-locs next-inside get-next-location remain-outside enter pass-to pass-through leave cross-boundary add-round retrace close-outline last-off pass-from passes surround after-while walk-from walk-closed walked-outline lib.Ieee.add ofInt sub mul div neg toSigned eq le
 drawings = refl

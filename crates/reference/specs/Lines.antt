@@ -16,6 +16,7 @@ use Rattle.plane.specs.Rectangle.{is-empty, intersects, get-bounds-path, get-lo
 use Rattle.plane.specs.Intersection.{get-intersection}
 use Rattle.reference.specs.Walk.{Walk, nothing-yet, add, add-all, Next, get-next-location}
 use Rattle.plane.specs.Locations.{is-inside}
+use Rattle.reference.specs.Counts.{line-walk-passes}
 
 -- the search for a point off the edges, forwards from the second: its location, if there is one
 unfoldable pub first-off-edge : Rect64 → List Point64 → Search
@@ -64,7 +65,7 @@ module _ (full : ℕ → Bool) (rect : Rect64) (path : List Point64) where
   unfoldable pub line-walk-from : Location → Try Walk
   line-walk-from loc =
       (if is-inside loc then add full nothing-yet (pt-at path 0) false else ok nothing-yet)
-      >>= λ w. line-passes (length path) (record { walk = w; loc = loc; i = 1 })
+      >>= λ w. line-passes (line-walk-passes (length path)) (record { walk = w; loc = loc; i = 1 })
       >>= λ s. ok (s .walk)
 
   -- `execute_internal`, of a path of two points or more

@@ -10,6 +10,7 @@ use Rattle.plane.specs.Basics.{if_then_else_, none, push, Try, refuse, ok, _>>=
 use Rattle.plane.specs.Points.{same-point}
 use Rattle.plane.specs.Signs.{has-horz-overlap, has-vert-overlap}
 use Rattle.reference.specs.Arena.{Arena, pt-of, owner-of, next-of, prev-of, edge-list, set-next, set-prev, set-results, set-result, set-entry, add-to-edge, uncouple-edge, set-new-owner}
+use Rattle.reference.specs.Counts.{ring-passes}
 
 -- what a turn hands to the next
 pub record Turn : Type 0 where
@@ -128,7 +129,7 @@ module _ (pts : List Point64) (idx : ℕ) where
   -- "To get here we're either splitting or rejoining"
   unfoldable pub rejoin : Arena → ℕ → ℕ → ℕ → ℕ → Four → Turn
   rejoin a i j p1-root p2-root f =
-      let b = regroup (cw-is-toward-larger idx) (length pts) a f (not (eqb (owner-of a p1-root) (owner-of a p2-root))) in
+      let b = regroup (cw-is-toward-larger idx) (ring-passes (length pts)) a f (not (eqb (owner-of a p1-root) (owner-of a p2-root))) in
       let op = first-op (cw-is-toward-larger idx) f in
       let op2 = second-op (cw-is-toward-larger idx) f in
       settle (set-result (set-result b (owner-of b op) op) (owner-of b op2) op2) i j op op2

@@ -17,6 +17,7 @@ use Rattle.plane.specs.Rectangle.{as-path, mid-point, contains-point, get-bound
 use Rattle.plane.specs.Intersection.{get-intersection}
 use Rattle.plane.specs.Signs.{is-clockwise-dir}
 use Rattle.plane.specs.Polygon.{path1-contains-path2}
+use Rattle.reference.specs.Counts.{corner-steps, walk-passes}
 
 -- What the walk has put down. Points are only ever put behind the last one, so one list holds those of all results, in order.
 pub record Walk : Type 0 where
@@ -156,8 +157,8 @@ module _ (full : ℕ → Bool) (rect : Rect64) where
       let is-clockw = is-clockwise-dir (c .prev) (c .loc) (c .prev-pt) (c .pt) (mid-point rect) in
       let went-on : Location → Walk → Try State = λ crossing-loc w.
       ok (record { walk = w; i = c .i + 1; loc = c .loc; crossing-loc = crossing-loc; first-cross = c .first-cross }) in
-      if is-inside (c .crossing-prev) then (push-start-locs full rect 4 (c .walk) (c .prev) (c .loc) is-clockw >>= went-on (c .crossing-prev))
-      else if not (is-inside (c .prev)) && not (same-location (c .prev) (c .loc)) then (add-corners full rect 4 (c .walk) (c .prev) (c .loc) is-clockw >>= went-on (c .loc))
+      if is-inside (c .crossing-prev) then (push-start-locs full rect corner-steps (c .walk) (c .prev) (c .loc) is-clockw >>= went-on (c .crossing-prev))
+      else if not (is-inside (c .prev)) && not (same-location (c .prev) (c .loc)) then (add-corners full rect corner-steps (c .walk) (c .prev) (c .loc) is-clockw >>= went-on (c .loc))
       else went-on (c .loc) (c .walk)
 
   -- "path must be entering rect", at ip
@@ -166,7 +167,7 @@ module _ (full : ℕ → Bool) (rect : Rect64) where
       let is-clockw = is-clockwise-dir (c .prev) crossing-loc (c .prev-pt) (c .pt) (mid-point rect) in
       let first = is-inside (c .first-cross) in
       (if first then push-start-loc full (c .walk) (c .prev)
-      else if not (same-location (c .prev) crossing-loc) then add-corners full rect 4 (c .walk) (c .prev) crossing-loc is-clockw
+      else if not (same-location (c .prev) crossing-loc) then add-corners full rect corner-steps (c .walk) (c .prev) crossing-loc is-clockw
       else ok (c .walk))
       >>= λ w. add full w ip false
       >>= λ v. ok (record { walk = v; i = c .i; loc = c .loc; crossing-loc = crossing-loc; first-cross = if first then crossing-loc else c .first-cross })
@@ -272,7 +273,7 @@ module _ (full : ℕ → Bool) (rect : Rect64) (path : List Point64) where
 
   unfoldable pub walk-from : Location → Try Walked
   walk-from loc =
-      passes (length path + 1) (record { walk = nothing-yet; i = 0; loc = loc; crossing-loc = Inside; first-cross = Inside }) >>= after-while loc
+      passes (walk-passes (length path)) (record { walk = nothing-yet; i = 0; loc = loc; crossing-loc = Inside; first-cross = Inside }) >>= after-while loc
 
   -- `execute_internal`
   unfoldable pub walk-closed : Try Walked

@@ -19,6 +19,7 @@ use Rattle.reference.specs.Clip.{arena-of, straighten, get-path}
 use Rattle.theorems.specs.Demand.{Bounded}
 use Rattle.plane.specs.Points.{points-of}
 use Rattle.plane.specs.Limit.{rect-in-limit, all-in-limit}
+use Rattle.reference.specs.Counts.{drop-passes, straighten-passes}
 
 -- ---- when a loop has ended
 -- from x, at most n steps along the links come to op: the loops that go round a ring end at op, and change no `next`
@@ -37,9 +38,9 @@ OwnerEnds nodes a op = Comes (next-of a) op nodes (next-of a op)
 -- ---- `check_edges`
 module _ (pts : List Point64) (rect : Rect64) where
   pub record RingChecked (a : Arena) (r : ℕ) : Type 0 where
-    pub dropped : Ended (drop-collinear pts (2 * length pts + 1) a (result-of a r) (result-of a r))
+    pub dropped : Ended (drop-collinear pts (drop-passes (length pts)) a (result-of a r) (result-of a r))
     -- the first pass is at op itself
-    pub assigned : let s = drop-collinear pts (2 * length pts + 1) a (result-of a r) (result-of a r) in eqb (s .op2) none ≡ false → Comes (next-of (s .arena)) (s .op) (length pts - 1) (next-of (s .arena) (s .op))
+    pub assigned : let s = drop-collinear pts (drop-passes (length pts)) a (result-of a r) (result-of a r) in eqb (s .op2) none ≡ false → Comes (next-of (s .arena)) (s .op) (length pts - 1) (next-of (s .arena) (s .op))
 
   abbrev pub CheckEnds : Arena → List ℕ → Type 0
   CheckEnds a [] = Unit {0}
@@ -73,8 +74,8 @@ module _ (pts : List Point64) (idx : ℕ) where
 -- ---- `get_path`
 module _ (pts : List Point64) where
   pub record PathEnds (a : Arena) (op-start : ℕ) : Type 0 where
-    pub straightened : Ended (straighten pts (length pts * length pts) a op-start (next-of a op-start))
-    pub read : let s = straighten pts (length pts * length pts) a op-start (next-of a op-start) in eqb (s .op2) none ≡ false → Comes (next-of (s .arena)) (s .op2) (length pts) (next-of (s .arena) (s .op2))
+    pub straightened : Ended (straighten pts (straighten-passes (length pts)) a op-start (next-of a op-start))
+    pub read : let s = straighten pts (straighten-passes (length pts)) a op-start (next-of a op-start) in eqb (s .op2) none ≡ false → Comes (next-of (s .arena)) (s .op2) (length pts) (next-of (s .arena) (s .op2))
 
   abbrev pub PathsEnd : Arena → List ℕ → Type 0
   PathsEnd a [] = Unit {0}

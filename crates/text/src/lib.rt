@@ -1,0 +1,1 @@
+// The clip program's lines: reading one into a request, and writing answers.
