@@ -24,6 +24,8 @@ use Rattle.plane.specs.Rectangle.{mid-point, get-location}
 use Rattle.plane.specs.Signs.{is-clockwise-dir}
 use Rattle.reference.specs.Walk.{Walk, State, no-room, add, push-start-loc, push-start-locs, add-corners, add-corner-prev-curr, remain-outside, enter, pass-to, pass-through, leave, cross-boundary, pt-before, pass-from, get-next-location}
 use Rattle.reference.specs.Walk as def
+use Rattle.rectclip.specs.declared.answer.Refusal.{Refusal}
+use Rattle.rectclip.specs.declared.answer.Refusal.the-variants.{CrossingLost}
 use Rattle.rectclip.specs.declared.walk.WalkState.{WalkState}
 use Rattle.rectclip.specs.declared.walk.Step.{Step}
 use Rattle.rectclip.specs.declared.walk.Step.the-variants.{Walked}
@@ -40,7 +42,8 @@ use Rattle.rectclip.specs.Walking.{walk-of, AddsCorners, Fits, Sheet, St
 use Rattle.rectclip.specs.Moving.{next-of, Moves, Moved}
 use Rattle.rectclip.specs.Closing.{closed-state-of, pass-of, advance-of, moves-on, first-of, enter-corners, pass-corner, pass-start, pass-in, pass-out, one-pass, Closes, Passing, Crossed, Advanced}
 use Rattle.rectclip.proofs.Coordinates.{points-length}
-use Rattle.rectclip.proofs.Limits.{framed, path-limited, close-of}
+use Rattle.rectclip.proofs.Limits.{framed}
+use Rattle.rectclip.proofs.Reach.{reached}
 use Rattle.rectclip.proofs.Walking.{on-ok, on-refuse, step-walked}
 use Rattle.rectclip.proofs.Moving.{moved-is, stopped-is}
 use Rattle.rectclip.proofs.Closing.{advance-on, advance-refused, advance-as, step-as, step-next, step-lost, step-then, step-stops, step-ends, roomed, outside-starts, outside-corners, outside-stays, entry-first, entry-same, entry-corners, entry-parts, leave-parts, corner-passed, corner-none, start-first, start-none, in-parts, out-corner, out-point, pass-parts, through-missed, through-found, crossing-enters, crossing-passes, crossing-leaves}
@@ -61,10 +64,7 @@ pub close-middle : (r : Rect64) → rect-in-limit r ≡ true → Reached (mid-po
 close-middle r e = let F = framed r e in record { across = middle-size (r .left) (r .right) (F .left) (F .right); down = middle-size (r .top) (r .bottom) (F .top) (F .bottom) }
 
 pub turn-limited : {rect : Rect64} {c : Pass} {m : Point64} → Closes rect c → m ≡ mid-point rect → Turn (c .«prev_pt») m (c .pt)
-turn-limited {rect} H e = record { first = close-of (H .start); second = subst Reached (sym e) (close-middle rect (H .frame)); third = close-of (H .end) }
-
-pub search-limited : {rect : Rect64} {p q : Point64} → rect-in-limit rect ≡ true → Limited p → Limited q → SearchLimits rect p q
-search-limited {rect} e h k = let F = framed rect e in record { rect = record { left = F .left; top = F .top; right = F .right; bottom = F .bottom }; start = h; end = k }
+turn-limited {rect} H e = record { first = reached (H .start); second = subst Reached (sym e) (close-middle rect (H .frame)); third = reached (H .end) }
 
 pub corners-of : {rect : Rect64} {store : List ℤ} {work : List ℕ} {c : Pass} → Passing rect store work c → AddsCorners rect store work (c .walk)
 corners-of H = record { fits = H .fits; limit = H .closes .frame }
@@ -125,7 +125,7 @@ module _ (rect : Rect64) (store : List ℤ) (work : List ℕ) (c : Pass) where
         (step-then R e (λ w. add (room store) w ip false >>= λ v. ok (record { walk = v; i = c .i; loc = c .loc; crossing-loc = x; first-cross = first-of (c .«first_cross») x }))
         (step-ends (step-as Q (roomed k (λ n. add n (walk-of store′ work′ w) ip false))) (c .i) (c .loc) x (first-of (c .«first_cross») x) (rw ef at ea)))
 
-    pub enter-refused : {k : ℕ} → r ≡ step.Refused k → Advanced (enter (room store) rect (pass-of store work c) ip x) store′ work′ (Refused k)
+    pub enter-refused : {k : Refusal} → r ≡ step.Refused k → Advanced (enter (room store) rect (pass-of store work c) ip x) store′ work′ (Refused k)
     enter-refused e = advance-as (entry-parts (room store) rect (pass-of store work c) x ip) (step-stops R e (λ w. add (room store) w ip false >>= λ v. ok (record { walk = v; i = c .i; loc = c .loc; crossing-loc = x; first-cross = first-of (c .«first_cross») x })))
 
   -- ---- exiting
@@ -152,7 +152,7 @@ module _ (rect : Rect64) (store : List ℤ) (work : List ℕ) where
 
   module _ (c : Pass) (ip2 : Point64) (loc : Location) {store₁ : List ℤ} {work₁ : List ℕ} {r : Step}
       (R : Stepped (pass-corner (room store) rect (walk-of store work (c .walk)) (c .«crossing_prev») loc) store₁ work₁ r) where
-    pub in-lost : {k : ℕ} → r ≡ step.Refused k → Stepped (pass-in (room store) rect (pass-of store work c) ip2 loc) store₁ work₁ r
+    pub in-lost : {k : Refusal} → r ≡ step.Refused k → Stepped (pass-in (room store) rect (pass-of store work c) ip2 loc) store₁ work₁ r
     in-lost e = step-as (step-lost R e (λ w. pass-start (room store) w (c .«first_cross») (c .prev) >>= λ v. add (room store) v ip2 false)) (in-parts (room store) rect (pass-of store work c) ip2 loc)
 
     module _ {w : WalkState} (e : r ≡ Walked w) (k : length store₁ ≡ length store) {work₂ : List ℕ} {q : Step}
@@ -160,7 +160,7 @@ module _ (rect : Rect64) (store : List ℤ) (work : List ℕ) where
       started : Stepped (pass-start (room store) (walk-of store₁ work₁ w) (c .«first_cross») (c .prev)) store₁ work₂ q
       started = step-as Q (roomed k (λ n. pass-start n (walk-of store₁ work₁ w) (c .«first_cross») (c .prev)))
 
-      pub in-stopped : {n : ℕ} → q ≡ step.Refused n → Stepped (pass-in (room store) rect (pass-of store work c) ip2 loc) store₁ work₂ q
+      pub in-stopped : {n : Refusal} → q ≡ step.Refused n → Stepped (pass-in (room store) rect (pass-of store work c) ip2 loc) store₁ work₂ q
       in-stopped f =
           step-as
           (step-next R e (λ w. pass-start (room store) w (c .«first_cross») (c .prev) >>= λ v. add (room store) v ip2 false) (step-lost started f (λ v. add (room store) v ip2 false)))
@@ -188,7 +188,7 @@ module _ (rect : Rect64) (store : List ℤ) (work : List ℕ) (at : NextState) (
 
 module _ (rect : Rect64) (store : List ℤ) (work : List ℕ) (c : Pass) (ip : Point64) (x : Location) where
   module _ (ip2 : Point64) (loc : Location) {store₁ : List ℤ} {work₁ : List ℕ} {r : Step} (R : Stepped (pass-in (room store) rect (pass-of store work c) ip2 loc) store₁ work₁ r) where
-    pub to-lost : {k : ℕ} → r ≡ step.Refused k → Advanced (pass-to (room store) rect (pass-of store work c) ip x ip2 loc) store₁ work₁ (Refused k)
+    pub to-lost : {k : Refusal} → r ≡ step.Refused k → Advanced (pass-to (room store) rect (pass-of store work c) ip x ip2 loc) store₁ work₁ (Refused k)
     to-lost e =
         advance-as (pass-parts (room store) rect (pass-of store work c) ip x ip2 loc)
         (step-stops R e (λ w. pass-out (room store) rect (record { walk = w; loc = x; i = c .i }) (c .pt) ip ip2 (first-of (c .«first_cross») loc)))
@@ -202,7 +202,7 @@ module _ (rect : Rect64) (store : List ℤ) (work : List ℕ) (c : Pass) (ip : P
         (advance-as (roomed k (λ n. pass-out n rect (next-of store₁ work₁ (record { walk = w; loc = x; i = c .i })) (c .pt) ip ip2 (first-of (c .«first_cross») loc))) (rw ef at A)))
 
   module _ {s : Search} (es : s ≡ get-intersection rect (c .«prev_pt») (c .pt) (c .prev)) where
-    pub lost : s ≡ Missed → Advanced (pass-through (room store) rect (pass-of store work c) ip x) store work (Refused 9)
+    pub lost : s ≡ Missed → Advanced (pass-through (room store) rect (pass-of store work c) ip x) store work (Refused CrossingLost)
     lost e = advance-refused (through-missed (room store) rect (pass-of store work c) x ip (sym es ∙ e))
 
     pub found : {ip2 : Point64} {l : Location} → s ≡ Found ip2 l → {store′ : List ℤ} {work′ : List ℕ} {a : Advance}

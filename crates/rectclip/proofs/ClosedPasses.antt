@@ -18,6 +18,8 @@ use Rattle.plane.specs.Intersection.{get-intersection}
 use Rattle.plane.specs.Limit.{Limited}
 use Rattle.plane.specs.Points.{pt-at, points-of}
 use Rattle.reference.specs.Walk.{Walk, Next, State, no-room, remain-outside, cross-boundary, pt-before, pass-from, passes, get-next-location}
+use Rattle.rectclip.specs.declared.answer.Refusal.{Refusal}
+use Rattle.rectclip.specs.Answers.{number}
 use Rattle.rectclip.specs.declared.walk.WalkState.{WalkState}
 use Rattle.rectclip.specs.declared.walk.Step.the-variants.{Walked}
 use Rattle.rectclip.specs.declared.next.NextState.{NextState}
@@ -32,16 +34,16 @@ use Rattle.rectclip.specs.Walking.{walk-of, Fits, Sheet}
 use Rattle.rectclip.specs.Moving.{next-of, Moves, Moved}
 use Rattle.rectclip.specs.Closing.{closed-state-of, pass-of, advance-of, one-pass, Closes, Advanced}
 use Rattle.rectclip.proofs.Coordinates.{points-length}
-use Rattle.rectclip.proofs.Limits.{path-limited}
+use Rattle.rectclip.proofs.Limits.{path-limited, searches}
 use Rattle.rectclip.proofs.Walking.{on-ok, on-refuse, step-walked, Going, going-start}
 use Rattle.rectclip.proofs.Moving as moving
 use Rattle.rectclip.proofs.Closing.{advance-on, advance-refused, advance-as, on-is, stopped-is, step-ends, roomed, from-past, from-missed, from-found}
-use Rattle.rectclip.proofs.ClosedPass.{room, search-limited}
+use Rattle.rectclip.proofs.ClosedPass.{room}
 
 -- ---- behind `get_next_location`
 pub segment-limited : {rect : Rect64} (path : List ℤ) (i : ℕ) {p q : Point64} → Sheet rect path → p ≡ pt-at (points-of path) i → q ≡ pt-before (points-of path) i → SearchLimits rect p q
 segment-limited path i S ep eq =
-    search-limited (S .frame) (subst Limited (sym ep) (path-limited path (S .points) i)) (subst Limited (sym eq) (path-limited path (S .points) _))
+    searches (S .frame) (subst Limited (sym ep) (path-limited path (S .points) i)) (subst Limited (sym eq) (path-limited path (S .points) _))
 
 pub pass-limited : {rect : Rect64} (path : List ℤ) (c : Pass) → Sheet rect path → c .pt ≡ pt-at (points-of path) (c .i) → c .«prev_pt» ≡ pt-before (points-of path) (c .i) → Closes rect c
 pass-limited path c S ep eq = record {
@@ -91,7 +93,7 @@ module _ (rect : Rect64) (path store : List ℤ) (work : List ℕ) (s : ClosedSt
       ∙ on-ok (pass-from (room store) rect (points-of path) (closed-state-of store work s)) (moving.moved-is M e))
       A
 
-  pub pass-lost : {k : ℕ} → m ≡ Stopped k → Advanced (one-pass (room store) rect (points-of path) (closed-state-of store work s)) store₁ work₁ (Refused k)
+  pub pass-lost : {k : Refusal} → m ≡ Stopped k → Advanced (one-pass (room store) rect (points-of path) (closed-state-of store work s)) store₁ work₁ (Refused k)
   unfolding one-pass
   pass-lost e = advance-refused (on-refuse (pass-from (room store) rect (points-of path) (closed-state-of store work s)) (moving.stopped-is M e))
 
@@ -135,10 +137,10 @@ module _ {rect : Rect64} {path store₀ : List ℤ} {work₀ : List ℕ} {s₀ :
       same-pass : one-pass (room store) rect (points-of path) (closed-state-of store work s) ≡ one-pass (room store₀) rect (points-of path) (closed-state-of store work s)
       same-pass = roomed (I .going .store-kept) (λ n. one-pass n rect (points-of path) (closed-state-of store work s))
 
-      pub passes-lost : (k : ℕ) → r ≡ Refused k → Advanced (passes (room store₀) rect (points-of path) (length path / 2 + 1) (closed-state-of store₀ work₀ s₀)) store′ work′ r
+      pub passes-lost : (k : Refusal) → r ≡ Refused k → Advanced (passes (room store₀) rect (points-of path) (length path / 2 + 1) (closed-state-of store₀ work₀ s₀)) store′ work′ r
       passes-lost k e =
           rw e
-          (advance-refused (passes-stop (room store₀) rect (points-of path) (left - 1) (closed-state-of store work s) (rw (points-length path) p) k (stopped-is R e ∙ same-pass) ∙ now-left))
+          (advance-refused (passes-stop (room store₀) rect (points-of path) (left - 1) (closed-state-of store work s) (rw (points-length path) p) (number k) (stopped-is R e ∙ same-pass) ∙ now-left))
 
       pub passes-again : (t : ClosedState) → r ≡ On t → length store′ ≡ length store → length work′ ≡ length work → ClosedGoing rect path store₀ work₀ s₀ store′ work′ t (left - 1)
       passes-again t e a z = record {

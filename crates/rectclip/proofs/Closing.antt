@@ -21,6 +21,8 @@ use Rattle.plane.specs.Rectangle.{mid-point, get-location}
 use Rattle.plane.specs.Signs.{is-clockwise-dir}
 use Rattle.reference.specs.Walk.{Walk, State, no-room, add, push-start-loc, push-start-locs, add-corners, add-corner-prev-curr, remain-outside, enter, pass-to, pass-through, leave, cross-boundary, pt-before, pass-from}
 use Rattle.reference.specs.Walk as def
+use Rattle.rectclip.specs.declared.answer.Refusal.{Refusal}
+use Rattle.rectclip.specs.Answers.{number}
 use Rattle.rectclip.specs.declared.walk.WalkState.{WalkState}
 use Rattle.rectclip.specs.declared.walk.Step.{Step}
 use Rattle.rectclip.specs.declared.walk.Step.the-variants.{Walked}
@@ -41,13 +43,13 @@ module _ {goal : Try State} {store : List ℤ} {work : List ℕ} where
   pub advance-on : {s : ClosedState} → ok (closed-state-of store work s) ≡ goal → Fits store work (s .walk) → Advanced goal store work (On s)
   advance-on {s} e F = record { answer = e; fits = λ t q. let z : s ≡ t = cc in subst (λ (t : ClosedState). Fits store work (t .walk)) z F }
 
-  pub advance-refused : {n : ℕ} → refuse n ≡ goal → Advanced goal store work (Refused n)
+  pub advance-refused : {n : Refusal} → refuse (number n) ≡ goal → Advanced goal store work (Refused n)
   advance-refused e = record { answer = e; fits = λ t q. absurd (let z : _≡_ {A = ℕ} 0 1 = cc in omega arith) }
 
   pub on-is : {s : ClosedState} {r : Advance} → Advanced goal store work r → r ≡ On s → ok (closed-state-of store work s) ≡ goal
   on-is R e = rw e at (R .answer)
 
-  pub stopped-is : {n : ℕ} {r : Advance} → Advanced goal store work r → r ≡ Refused n → refuse n ≡ goal
+  pub stopped-is : {n : Refusal} {r : Advance} → Advanced goal store work r → r ≡ Refused n → refuse (number n) ≡ goal
   stopped-is R e = rw e at (R .answer)
 
   -- another way to say what was to be done
@@ -62,13 +64,13 @@ module _ {goal : Try Walk} {store : List ℤ} {work : List ℕ} {r : Step} (R : 
   pub step-next : {s : WalkState} → r ≡ Walked s → (f : Walk → Try Walk) {store′ : List ℤ} {work′ : List ℕ} {q : Step} → Stepped (f (walk-of store work s)) store′ work′ q → Stepped (goal >>= f) store′ work′ q
   step-next {s} e f {store′} {work′} {q} Q = subst (λ (g : Try Walk). Stepped g store′ work′ q) (on-ok f (walked-is R e)) Q
 
-  pub step-lost : {k : ℕ} → r ≡ step.Refused k → (f : Walk → Try Walk) → Stepped (goal >>= f) store work r
+  pub step-lost : {k : Refusal} → r ≡ step.Refused k → (f : Walk → Try Walk) → Stepped (goal >>= f) store work r
   step-lost {k} e f = subst (λ (q : Step). Stepped (goal >>= f) store work q) (sym e) (step-refused (on-refuse f (refused-is R e)))
 
   pub step-then : {s : WalkState} → r ≡ Walked s → (f : Walk → Try State) {store′ : List ℤ} {work′ : List ℕ} {a : Advance} → Advanced (f (walk-of store work s)) store′ work′ a → Advanced (goal >>= f) store′ work′ a
   step-then e f A = advance-as (on-ok f (walked-is R e)) A
 
-  pub step-stops : {k : ℕ} → r ≡ step.Refused k → (f : Walk → Try State) → Advanced (goal >>= f) store work (Refused k)
+  pub step-stops : {k : Refusal} → r ≡ step.Refused k → (f : Walk → Try State) → Advanced (goal >>= f) store work (Refused k)
   step-stops e f = advance-refused (on-refuse f (refused-is R e))
 
   -- a step is the end of the pass

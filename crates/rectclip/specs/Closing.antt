@@ -25,6 +25,7 @@ use Rattle.rectclip.specs.declared.closed.ClosedState.{ClosedState}
 use Rattle.rectclip.specs.declared.closed.Pass.{Pass}
 use Rattle.rectclip.specs.declared.closed.Advance.{Advance}
 use Rattle.rectclip.specs.declared.closed.Advance.the-variants.{On, Refused}
+use Rattle.rectclip.specs.Answers.{number}
 use Rattle.rectclip.specs.Bounds.{Reached}
 use Rattle.rectclip.specs.Walking.{walk-of, AddsCorners, Fits}
 
@@ -47,12 +48,12 @@ pass-of store work c = record {
 -- how a pass ends: the state as the lists have it, or a refusal
 abbrev pub advanced : Advance → List ℤ → List ℕ → Try State
 advanced (On s) store work = ok (closed-state-of store work s)
-advanced (Refused n) store work = refuse n
+advanced (Refused why) store work = refuse (number why)
 
 -- a step of the walk as the end of a pass
 abbrev pub advance-of : Step → ℕ → Location → Location → Location → Advance
 advance-of (Walked w) i loc crossing-loc first-cross = On (record { walk = w; i = i; loc = loc; «crossing_loc» = crossing-loc; «first_cross» = first-cross })
-advance-of (step.Refused n) i loc crossing-loc first-cross = Refused n
+advance-of (step.Refused why) i loc crossing-loc first-cross = Refused why
 
 -- ---- parts of a pass
 abbrev pub moves-on : Location → Location → Bool

@@ -11,6 +11,7 @@ ghost use Rattle.reference.specs.Walk.{no-room, remain-outside, enter, pass-to,
 ghost use Rattle.rectclip.specs.Walking.{walk-of, Adds, AddsCorners, Fits, Stepped};
 ghost use Rattle.rectclip.specs.Moving.{next-of, Moves};
 ghost use Rattle.rectclip.specs.Closing.{closed-state-of, pass-of, advance-of, moves-on, first-of, enter-corners, pass-corner, pass-start, pass-in, pass-out, one-pass, Closes, Passing, Crossed, Passes, Exits, Advanced};
+use crate::answer::Refusal;
 use crate::corners::add_corner_prev_curr;
 use crate::corners::add_corners;
 use crate::corners::push_start_locs;
@@ -54,10 +55,10 @@ impl ClosedState {
     }
 }
 
-// How a pass ends: the state, or the number of a refusal.
+// How a pass ends: the state, or a refusal.
 pub(crate) enum Advance {
     On(ClosedState),
-    Refused(u32),
+    Refused(Refusal),
 }
 
 // What a pass knows once `get_next_location` has moved on to the point `path[i]`.
@@ -336,7 +337,7 @@ fn pass_through(
     let prev_pt = c.prev_pt;
     let pt = c.pt;
     match get_intersection(rect, prev_pt, pt, prev) {
-        Search::Missed => Advance::Refused(9),
+        Search::Missed => Advance::Refused(Refusal::CrossingLost),
         Search::Found(ip2, loc) => { pass_to(rect, store, work, c, ip, crossing_loc, ip2, loc) }
     }
 }

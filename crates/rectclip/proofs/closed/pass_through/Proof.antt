@@ -1,4 +1,5 @@
-use Rattle.rectclip.proofs.ClosedPass.{search-limited, lost, found}
+use Rattle.rectclip.proofs.ClosedPass.{lost, found}
+use Rattle.rectclip.proofs.Limits.{searches}
 use borrow.Author.Needs.{needs}
 use Rattle.rectclip.proofs.closed.pass_through.Statement.{statement}
 use Rattle.rectclip.proofs.closed.pass_through.Tie as tie
@@ -8,7 +9,7 @@ use Rattle.rectclip.proofs.closed.pass_to.Reads as pass-to-reads
 use Rattle.rectclip.proofs.search.get_intersection.Reads as get-intersection-reads
 
 get-intersection-requires : tie.Need-get-intersection-requires
-get-intersection-requires c κs = search-limited (c .before .before .before .pre .passing .closes .frame) (c .before .before .before .pre .passing .closes .start) (c .before .before .before .pre .passing .closes .end)
+get-intersection-requires c κs = searches (c .before .before .before .pre .passing .closes .frame) (c .before .before .before .pre .passing .closes .start) (c .before .before .before .pre .passing .closes .end)
 
 enum-told : tie.Need-enum-told
 enum-told c = search needs
