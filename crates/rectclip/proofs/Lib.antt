@@ -14,6 +14,13 @@ pub mod Moving
 pub mod Closing
 pub mod ClosedPass
 pub mod ClosedPasses
+pub mod Added
+pub mod StartSides
+pub mod Retracing
+pub mod GoingRound
+pub mod RectPath
+pub mod Outlining
+pub mod ClosedWalk
 pub mod Searches
 pub mod PathBounds
 pub mod Sheets

@@ -8,3 +8,4 @@ pub mod Closing
 pub mod Scanned
 pub mod Answers
 pub mod Crossing
+pub mod Outlining

@@ -6,6 +6,7 @@ mod corners;
 mod line_walk;
 mod lists;
 mod next;
+mod outline;
 mod polygon;
 pub mod present;
 mod search;
