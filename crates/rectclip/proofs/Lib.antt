@@ -1,6 +1,22 @@
 -- Laws that the functions' proofs cite.
 pub mod Reach
 pub mod Segments
+pub mod Limits
+pub mod Walking
+pub mod Adding
+pub mod Turning
+pub mod Scanning
+pub mod Moving
+pub mod Closing
+pub mod ClosedPass
+pub mod ClosedPasses
+pub mod Added
+pub mod StartSides
+pub mod Retracing
+pub mod GoingRound
+pub mod RectPath
+pub mod Outlining
+pub mod ClosedWalk
 pub mod Searches
 pub mod PathBounds
 pub mod Sheets

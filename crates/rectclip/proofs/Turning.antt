@@ -158,7 +158,7 @@ sides-any full rect rect′ (suc left) w p loc cw =
     (λ j v. sides-any full rect rect′ left v (get-adjacent-location p cw) loc cw j)
 
 -- ---- a start side
-location-number : (loc : Location) → location (side-number loc) ≡ loc
+pub location-number : (loc : Location) → location (side-number loc) ≡ loc
 location-number Left = refl
 location-number Top = refl
 location-number Right = refl

@@ -5,7 +5,9 @@ pub mod Parted
 pub mod Memory
 pub mod Walking
 pub mod Moving
+pub mod Closing
 pub mod Scanned
 pub mod Crossing
 pub mod Pieces
 pub mod Promises
+pub mod Outlining

@@ -1,6 +1,7 @@
 // The rectangle clippers: RectClip64 for closed paths and RectClipLines64 for open ones, of rectclip.rs.
 // The public entries are total; what needs a bound is private.
 pub mod answer;
+mod closed;
 mod corners;
 mod line_walk;
 pub mod lines;
@@ -8,6 +9,7 @@ mod lists;
 mod next;
 pub mod part;
 mod pieces;
+mod outline;
 mod polygon;
 pub mod present;
 mod refusals;
