@@ -28,12 +28,6 @@ pub mod Memory
 pub mod Columns
 pub mod Coordinates
 pub mod Clearing
-pub mod Limits
-pub mod Walking
-pub mod Adding
-pub mod Turning
-pub mod Scanning
-pub mod Moving
 pub mod Passing
 pub mod Crossing
 pub mod Opening
