@@ -3,3 +3,6 @@ pub mod Memory
 pub mod Columns
 pub mod Coordinates
 pub mod Clearing
+pub mod Arenas
+pub mod Ranges
+pub mod Stores

@@ -1,2 +1,3 @@
 -- Words of the private functions' contracts, and the answers of the public ones.
 pub mod Memory
+pub mod Arenas
