@@ -6,3 +6,4 @@ pub mod Clearing
 pub mod Arenas
 pub mod Ranges
 pub mod Stores
+pub mod Unlinking

@@ -1,3 +1,4 @@
 -- Words of the private functions' contracts, and the answers of the public ones.
 pub mod Memory
 pub mod Arenas
+pub mod Rings
