@@ -7,3 +7,4 @@ pub mod Arenas
 pub mod Ranges
 pub mod Stores
 pub mod Unlinking
+pub mod Reach

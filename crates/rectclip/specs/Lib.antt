@@ -2,3 +2,4 @@
 pub mod Memory
 pub mod Arenas
 pub mod Rings
+pub mod Bounds
