@@ -4,7 +4,8 @@ use mathlib.Core.Path.{_≡_}
 use mathlib.Core.List.{List, [], _∷_}
 use Prim.Native.Nat.{ℕ, suc, _+_, _*_, _<_, _≤_}
 use lib.ListN.{length, getD, set}
-use Rattle.plane.specs.Basics.{none}
+use lib.Dec.{eqb}
+use Rattle.plane.specs.Basics.{if_then_else_, none}
 use Rattle.reference.specs.Arena.{Arena, owner-of, edge-of, next-of, prev-of, result-of, edge-list}
 use Rattle.rectclip.specs.declared.arena.Sizes.{Sizes}
 use Rattle.rectclip.specs.Memory.{Room, column}
@@ -68,3 +69,28 @@ pub record Grows (m m′ : List ℕ) (r s′ : Sizes) (b : Arena) : Type 0 where
   pub is : arena-at m′ s′ ≡ b
   pub holds : Holds m′ s′
   pub same : length m′ ≡ length m
+
+-- how many entries of a list are the mark
+abbrev pub free : List ℕ → ℕ
+free [] = 0
+free (x ∷ xs) = (if eqb x none then 1 else 0) + free xs
+
+-- N slots are enough for k results more, and for k entries more in each edge list beside one for each node that is in none
+pub record Spare (N k : ℕ) (a : Arena) : Type 0 where
+  pub results : length (a .results) + k ≤ N
+  pub lists : (e : ℕ) → e < 8 → length (edge-list a e) + free (a .edge) + k ≤ N
+
+-- What a function leaves that changes the arena to b and may push to results and edge lists; r are the sizes afterwards.
+pub record Becomes (m m′ : List ℕ) (s r : Sizes) (b : Arena) : Type 0 where
+  pub is : arena-at m′ r ≡ b
+  pub holds : Holds m′ r
+  pub slots : r .slots ≡ s .slots
+  pub nodes : r .nodes ≡ s .nodes
+  pub results : s .results ≤ r .results
+  pub lists : (e : ℕ) → getD (s .lens) e 0 ≤ getD (r .lens) e 0
+  pub same : length m′ ≡ length m
+
+-- the same where each node enters one edge list at most: it takes no room but the node's own
+pub record Enters (m m′ : List ℕ) (s r : Sizes) (b : Arena) : Type 0 where
+  pub becomes : Becomes m m′ s r b
+  pub spare : (N k : ℕ) → Spare N k (arena-at m s) → Spare N k b
