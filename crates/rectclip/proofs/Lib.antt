@@ -15,4 +15,8 @@ pub mod Spare
 pub mod Becoming
 pub mod Entering
 pub mod Checking
+pub mod Starts
+pub mod Counting
+pub mod ReadOut
+pub mod WriteOut
 pub mod Reach

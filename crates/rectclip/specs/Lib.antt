@@ -5,3 +5,4 @@ pub mod Bounds
 pub mod Stored
 pub mod Rings
 pub mod Edges
+pub mod Paths

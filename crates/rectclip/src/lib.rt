@@ -3,5 +3,6 @@
 mod arena;
 mod edges;
 mod lists;
+mod paths;
 mod rings;
 mod segment;

@@ -3,6 +3,7 @@ ghost use mathlib.Core.Path.{_≡_};
 ghost use Prim.Native.Nat.{_<_, _+_, _*_};
 ghost use lib.ListN.{length};
 ghost use Rattle.reference.specs.Arena.{next-of, pt-of, is-flat, set-new-owner, drop-collinear-pass, drop-collinear};
+ghost use Rattle.reference.specs.Tidy.{is-stub};
 ghost use Rattle.reference.specs.Clip.{straighten-pass, straighten};
 ghost use Rattle.rectclip.specs.Arenas.{arena-at, Holds, Leaves};
 ghost use Rattle.rectclip.specs.Stored.{points-in, Drawn};
@@ -72,6 +73,16 @@ pub(crate) fn set_new_owner(work: &mut [u32], s: Sizes, op: usize, owner: usize)
         op2 = next_of(work, s, op2);
         left -= 1;
     }
+}
+
+// Whether the ring of the node has one or two nodes: `next == prev`.
+pub(crate) fn is_stub(work: &[u32], s: Sizes, op: usize) -> bool
+    requires { ⌜ Holds (now work) s × (op < s .nodes) ⌝ }
+    ensures { λ r. ⌜ r ≡ is-stub (arena-at (now (work .entry)) s) op ⌝ }
+{
+    let next = next_of(work, s, op);
+    let prev = prev_of(work, s, op);
+    next == prev
 }
 
 // Whether the node is on a line with its neighbours.
