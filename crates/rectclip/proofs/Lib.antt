@@ -19,4 +19,11 @@ pub mod Starts
 pub mod Counting
 pub mod ReadOut
 pub mod WriteOut
+pub mod Striking
+pub mod Seeking
+pub mod Regrouping
+pub mod Space
+pub mod Settling
+pub mod Turning
+pub mod Tidying
 pub mod Reach

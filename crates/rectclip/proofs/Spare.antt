@@ -13,7 +13,7 @@ use Rattle.plane.specs.declared.point.Point64.{Point64}
 use Rattle.plane.specs.Basics.{if_then_else_, none, push}
 use Rattle.reference.specs.Arena.{Arena, Round, next-of, prev-of, edge-of, edge-list, set-edge, set-next, set-prev, set-result, set-results, set-edge-list, unlink, unlink-op-back, is-flat, drop-collinear-pass, drop-collinear}
 use Rattle.rectclip.specs.declared.arena.Sizes.{Sizes}
-use Rattle.rectclip.specs.Arenas.{arena-at, Holds, free, Spare}
+use Rattle.rectclip.specs.Arenas.{arena-at, Holds, free, Space, Spare}
 use Rattle.rectclip.proofs.Columns.{column-length}
 use Rattle.rectclip.proofs.Arenas.{list-at}
 use Rattle.rectclip.proofs.Ranges.{set-or}
@@ -61,10 +61,10 @@ spare-slots e S = record { results = omega (arith, S .results); lists = λ f h. 
 pub spare-room : {N k : ℕ} {a : Arena} → Spare N k a → (e op : ℕ) → e < 8 → op < length (a .edge) → edge-of a op ≡ none → length (edge-list a e) + k < N
 spare-room {a = a} S e op h l q = omega (arith, S .lists e h, free-here (a .edge) op l q)
 
-pub spare-entered : {N k : ℕ} {a : Arena} → Spare N k a → (e op : ℕ) → e < 8 → op < length (a .edge) → edge-of a op ≡ none
-    → Spare N k (set-edge-list (set-edge a op e) e (push (edge-list a e) op))
+pub spare-entered : {N r k : ℕ} {a : Arena} → Space N r k a → (e op : ℕ) → e < 8 → op < length (a .edge) → edge-of a op ≡ none
+    → Space N r k (set-edge-list (set-edge a op e) e (push (edge-list a e) op))
 unfolding set-edge set-edge-list
-spare-entered {N} {k} {a} S e op h l q =
+spare-entered {a = a} S e op h l q =
     let t = free-taken (a .edge) op e l q (λ w. omega arith) in
     record {
       results = S .results;
@@ -76,9 +76,9 @@ spare-entered {N} {k} {a} S e op h l q =
     }
 
 -- a number set among the results
-pub spare-result : {N k : ℕ} {a : Arena} → Spare N k a → (r v : ℕ) → Spare N k (set-result a r v)
+pub spare-result : {N r k : ℕ} {a : Arena} → Space N r k a → (i v : ℕ) → Space N r k (set-result a i v)
 unfolding set-results
-spare-result {a = a} S r v = record { results = omega (arith, length-set (a .results) r v, S .results); lists = S .lists }
+spare-result {a = a} S i v = record { results = omega (arith, length-set (a .results) i v, S .results); lists = S .lists }
 
 -- ---- dropping nodes from a ring keeps the lists
 pub spare-unlinked : {N k : ℕ} {a : Arena} → Spare N k a → (x : ℕ) → Spare N k (unlink a x)

@@ -75,10 +75,13 @@ abbrev pub free : List ℕ → ℕ
 free [] = 0
 free (x ∷ xs) = (if eqb x none then 1 else 0) + free xs
 
--- N slots are enough for k results more, and for k entries more in each edge list beside one for each node that is in none
-pub record Spare (N k : ℕ) (a : Arena) : Type 0 where
-  pub results : length (a .results) + k ≤ N
+-- N slots are enough for r results more, and for k entries more in each edge list beside one for each node that is in none
+pub record Space (N r k : ℕ) (a : Arena) : Type 0 where
+  pub results : length (a .results) + r ≤ N
   pub lists : (e : ℕ) → e < 8 → length (edge-list a e) + free (a .edge) + k ≤ N
+
+abbrev pub Spare : ℕ → ℕ → Arena → Type 0
+Spare N k a = Space N k k a
 
 -- What a function leaves that changes the arena to b and may push to results and edge lists; r are the sizes afterwards.
 pub record Becomes (m m′ : List ℕ) (s r : Sizes) (b : Arena) : Type 0 where

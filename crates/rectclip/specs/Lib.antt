@@ -6,3 +6,4 @@ pub mod Stored
 pub mod Rings
 pub mod Edges
 pub mod Paths
+pub mod Turns

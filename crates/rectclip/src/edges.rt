@@ -2,17 +2,19 @@
 ghost use mathlib.Core.Path.{_≡_};
 ghost use Prim.Native.Nat.{_<_, _+_, _*_};
 ghost use Rattle.plane.specs.Rectangle.{has-edge};
-ghost use Rattle.reference.specs.Arena.{add-to-edge, assign-side, assign-edges, check-edges};
-ghost use Rattle.rectclip.specs.Arenas.{arena-at, Enters};
+ghost use Rattle.reference.specs.Arena.{edge-list, set-edge-list, struck, uncouple-edge, add-to-edge, assign-side, assign-edges, check-edges};
+ghost use Rattle.rectclip.specs.Arenas.{arena-at, Holds, Leaves, Enters};
 ghost use Rattle.rectclip.specs.Stored.{points-in};
 ghost use Rattle.rectclip.specs.Edges.{Entering, Assigning, Checking, assign-node, check-result};
 use crate::arena::Sizes;
 use crate::arena::edge_of;
+use crate::arena::entry_of;
 use crate::arena::next_of;
 use crate::arena::prev_of;
 use crate::arena::push_entry;
 use crate::arena::result_of;
 use crate::arena::set_edge;
+use crate::arena::set_entry;
 use crate::arena::set_result;
 use crate::lists::NONE;
 use crate::rings::drop_collinear;
@@ -161,4 +163,34 @@ pub(crate) fn check_edges(store: &[i64], work: &mut [u32], s: Sizes, rect: Rect6
         i += 1;
     }
     at
+}
+
+// The first entry of list `e` that is `op` is struck out.
+pub(crate) fn strike(work: &mut [u32], s: Sizes, e: usize, op: usize)
+    requires { ⌜ Holds (now work) s × (e < 8) ⌝ }
+    ensures { λ _. ⌜ Leaves (now (work .entry)) (now (work .exit)) s (set-edge-list (arena-at (now (work .entry)) s) e (struck (edge-list (arena-at (now (work .entry)) s) e) op)) ⌝ }
+{
+    let lens = s.lens;
+    let len = lens[e];
+    let mut i = 0;
+    while i < len {
+        if entry_of(work, s, e, i) == op {
+            set_entry(work, s, e, i, NONE);
+            return;
+        }
+        i += 1;
+    }
+}
+
+// The node is in no edge list from now on.
+pub(crate) fn uncouple_edge(work: &mut [u32], s: Sizes, op: usize)
+    requires { ⌜ Holds (now work) s × (op < s .nodes) ⌝ }
+    ensures { λ _. ⌜ Leaves (now (work .entry)) (now (work .exit)) s (uncouple-edge (arena-at (now (work .entry)) s) op) ⌝ }
+{
+    let e = edge_of(work, s, op);
+    if e == NONE {
+        return;
+    }
+    strike(work, s, e, op);
+    set_edge(work, s, op, NONE);
 }

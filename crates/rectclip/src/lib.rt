@@ -6,3 +6,4 @@ mod lists;
 mod paths;
 mod rings;
 mod segment;
+mod tidy;
