@@ -26,4 +26,5 @@ pub mod Space
 pub mod Settling
 pub mod Turning
 pub mod Tidying
+pub mod Building
 pub mod Reach

@@ -9,7 +9,7 @@ use lib.IntN.{ℤ}
 use lib.Dec.{eqb, ltb}
 use borrow.Author.Tests.{eq-eqb, ne-eqb, ltb-true}
 use Rattle.plane.specs.declared.point.Point64.{Point64}
-use Rattle.plane.specs.Basics.{if_then_else_, Try, refuse, ok}
+use Rattle.plane.specs.Basics.{if_then_else_, Try, refuse, ok, _>>=_}
 use Rattle.reference.specs.Arena.{Arena, edge-list}
 use Rattle.reference.specs.Tidy.{one-turn, turn, turns-from, tidy-edges}
 use Rattle.reference.specs.Tidy as reference
@@ -18,7 +18,7 @@ use Rattle.rectclip.specs.declared.tidy.Turn.{Turn}
 use Rattle.rectclip.specs.declared.tidy.Tidied.{Tidied}
 use Rattle.rectclip.specs.Arenas.{arena-at, Holds, Becomes, Space, Spare}
 use Rattle.rectclip.specs.Stored.{points-in, Drawn}
-use Rattle.rectclip.specs.Turns.{Turned, Whole, Turning, Allowing, answer, TidiedAs}
+use Rattle.rectclip.specs.Turns.{Turned, Whole, Turning, Allowing, answer, TidiedAs, Between, tidied-all}
 use Rattle.rectclip.proofs.Spare.{list-length, spare-slots}
 use Rattle.rectclip.proofs.Becoming.{becomes-same, becomes-renamed, then-becomes}
 use Rattle.rectclip.proofs.Settling.{turn-at}
@@ -117,3 +117,43 @@ module _ {store : List ℤ} {m : List ℕ} {s : Sizes} {idx A turns : ℕ} (x : 
       → TidiedAs m m′ s A r (tidy-edges (points-in store (s .nodes)) idx A (arena-at m s, turns))
   unfolding tidy-edges
   tidy-some q r k = rw (ne-eqb (length (edge-list (arena-at m s) (idx * 2 + 1))) 0 (λ e. q (sym ccw ∙ e))) k
+
+-- ---- one side after another
+module _ {store : List ℤ} {m : List ℕ} (r : Tidied) {idx A : ℕ} (x : Between store m r idx A) where
+  pub then-full : r .full ≡ true → TidiedAs m m (r .s) A r (answer m r >>= tidy-edges (points-in store (r .s .nodes)) idx A)
+  then-full t = record {
+    is = rw t refl;
+    becomes = becomes-same (x .holds);
+    spare = x .spare;
+    turns-in = x .turns-in;
+  }
+
+  pub then-may : Allowing store m (r .s) idx A (r .turns)
+  then-may = record { drawn = x .drawn; holds = x .holds; spare = x .spare; side-in = x .side-in; turns-in = x .turns-in }
+
+  pub then-tidied : r .full ≡ false → {m′ : List ℕ} (u : Tidied) → TidiedAs m m′ (r .s) A u (tidy-edges (points-in store (r .s .nodes)) idx A (arena-at m (r .s), r .turns))
+      → TidiedAs m m′ (r .s) A u (answer m r >>= tidy-edges (points-in store (r .s .nodes)) idx A)
+  then-tidied t u k = record { is = k .is ∙ rw t refl; becomes = k .becomes; spare = k .spare; turns-in = k .turns-in }
+
+pub may-go-on : {store : List ℤ} {m m₁ : List ℕ} {s : Sizes} {A : ℕ} {r : Tidied} {b : Try (Arena × ℕ)} → Drawn store (s .nodes) → TidiedAs m m₁ s A r b → (idx : ℕ) → idx < 4 → Between store m₁ r idx A
+may-go-on d k idx h = record { drawn = rw (k .becomes .nodes) d; holds = k .becomes .holds; spare = spare-slots (k .becomes .slots) (k .spare); side-in = h; turns-in = k .turns-in }
+
+-- `f` is what the definition does next
+pub goes-on : {m m₁ m₂ : List ℕ} {s : Sizes} {A : ℕ} {r u : Tidied} {b : Try (Arena × ℕ)} (f : ℕ → Arena × ℕ → Try (Arena × ℕ)) → TidiedAs m m₁ s A r b
+    → TidiedAs m₁ m₂ (r .s) A u (answer m₁ r >>= f (r .s .nodes)) → TidiedAs m m₂ s A u (b >>= f (s .nodes))
+goes-on {m₂ = m₂} {u = u} f k l = record {
+  is = l .is ∙ (λ i. k .is i >>= f (k .becomes .nodes i));
+  becomes = then-becomes (λ _ _. arena-at m₂ (u .s)) (k .becomes) (l .becomes);
+  spare = spare-slots (sym (k .becomes .slots)) (l .spare);
+  turns-in = l .turns-in;
+}
+
+pub all-sides : (store : List ℤ) {m m₁ m₂ m₃ m₄ : List ℕ} {s : Sizes} {A : ℕ} {r₁ r₂ r₃ r₄ : Tidied}
+    → TidiedAs m m₁ s A r₁ (tidy-edges (points-in store (s .nodes)) 0 A (arena-at m s, 0))
+    → TidiedAs m₁ m₂ (r₁ .s) A r₂ (answer m₁ r₁ >>= tidy-edges (points-in store (r₁ .s .nodes)) 1 A)
+    → TidiedAs m₂ m₃ (r₂ .s) A r₃ (answer m₂ r₂ >>= tidy-edges (points-in store (r₂ .s .nodes)) 2 A)
+    → TidiedAs m₃ m₄ (r₃ .s) A r₄ (answer m₃ r₃ >>= tidy-edges (points-in store (r₃ .s .nodes)) 3 A)
+    → TidiedAs m m₄ s A r₄ (tidied-all (points-in store (s .nodes)) A (arena-at m s))
+unfolding tidied-all
+all-sides store {A = A} k₀ k₁ k₂ k₃ =
+    goes-on (λ n. tidy-edges (points-in store n) 3 A) (goes-on (λ n. tidy-edges (points-in store n) 2 A) (goes-on (λ n. tidy-edges (points-in store n) 1 A) k₀ k₁) k₂) k₃

@@ -7,9 +7,9 @@ use lib.IntN.{ℤ}
 use lib.ListN.{length, getD, drop}
 use lib.Dec.{eqb}
 use Rattle.plane.specs.declared.point.Point64.{Point64}
-use Rattle.plane.specs.Basics.{if_then_else_, none, push, Try, refuse, ok}
+use Rattle.plane.specs.Basics.{if_then_else_, none, push, Try, refuse, ok, _>>=_}
 use Rattle.reference.specs.Arena.{Arena, owner-of, edge-list, set-entry, set-result, set-results, set-new-owner}
-use Rattle.reference.specs.Tidy.{is-stub, seek}
+use Rattle.reference.specs.Tidy.{is-stub, seek, tidy-edges}
 use Rattle.reference.specs.Tidy as reference
 use Rattle.rectclip.specs.declared.arena.Sizes.{Sizes}
 use Rattle.rectclip.specs.declared.tidy.Four.{Four}
@@ -147,3 +147,19 @@ pub record TidiedAs (m m′ : List ℕ) (s : Sizes) (A : ℕ) (r : Tidied) (b : 
   pub becomes : Becomes m m′ s (r .s) (arena-at m′ (r .s))
   pub spare : Spare (s .slots) (A - r .turns) (arena-at m′ (r .s))
   pub turns-in : r .turns ≤ A
+
+-- the next side may be tidied after what r answers
+pub record Between (store : List ℤ) (m : List ℕ) (r : Tidied) (idx A : ℕ) : Type 0 where
+  pub drawn : Drawn store (r .s .nodes)
+  pub holds : Holds m (r .s)
+  pub spare : Spare (r .s .slots) (A - r .turns) (arena-at m (r .s))
+  pub side-in : idx < 4
+  pub turns-in : r .turns ≤ A
+
+-- side idx after what was answered before
+abbrev pub next-side : List Point64 → ℕ → ℕ → Try (Arena × ℕ) → Try (Arena × ℕ)
+next-side pts idx A b = b >>= tidy-edges pts idx A
+
+-- the four sides in their order, as `execute` has them
+unfoldable pub tidied-all : List Point64 → ℕ → Arena → Try (Arena × ℕ)
+tidied-all pts A a = tidy-edges pts 0 A (a, 0) >>= tidy-edges pts 1 A >>= tidy-edges pts 2 A >>= tidy-edges pts 3 A

@@ -4,6 +4,7 @@ mod arena;
 mod edges;
 mod lists;
 mod paths;
+mod ring;
 mod rings;
 mod segment;
 mod tidy;

@@ -11,7 +11,7 @@ ghost use Rattle.reference.specs.Arena.{ring, add-to-edge, uncouple-edge};
 ghost use Rattle.reference.specs.Tidy.{is-horz, cw-is-toward-larger, four-of, overlap, relink, is-larger, is-spent, keep-one, keep-both, keep-each, settle, rejoin, one-turn, turn, turns-from, tidy-edges};
 ghost use Rattle.rectclip.specs.Arenas.{arena-at, Holds, Leaves, Marked, Becomes};
 ghost use Rattle.rectclip.specs.Stored.{points-in, Drawn};
-ghost use Rattle.rectclip.specs.Turns.{is-live, Sought, four, FourIn, Fourth, joined, split, set-roots, Looking, Entries, put-entry, Settling, Settled, Moves, Groups, Whole, regrouped, Rejoining, Turning, Allowing, TidiedAs};
+ghost use Rattle.rectclip.specs.Turns.{is-live, Sought, four, FourIn, Fourth, joined, split, set-roots, Looking, Entries, put-entry, Settling, Settled, Moves, Groups, Whole, regrouped, Rejoining, Turning, Allowing, Between, answer, TidiedAs, next-side, tidied-all};
 use crate::arena::Sizes;
 use crate::arena::entry_of;
 use crate::arena::owner_of;
@@ -524,4 +524,33 @@ pub(crate) fn tidy_edges(
         };
     }
     take_turns(store, work, s, idx, allowance, turns)
+}
+
+// The next side, unless the allowance was too small for those before.
+pub(crate) fn then_tidy(
+    store: &[i64],
+    work: &mut [u32],
+    so_far: Tidied,
+    idx: usize,
+    allowance: usize,
+) -> Tidied
+    requires { ⌜ Between (now store) (now work) «so_far» idx allowance ⌝ }
+    ensures { λ r. ⌜ TidiedAs (now (work .entry)) (now (work .exit)) («so_far» .s) allowance r (next-side (points-in (now (store .entry)) («so_far» .s .nodes)) idx allowance (answer (now (work .entry)) «so_far»)) ⌝ }
+{
+    if so_far.full {
+        return so_far;
+    }
+    let s = so_far.s;
+    tidy_edges(store, work, s, idx, allowance, so_far.turns)
+}
+
+// All four sides, in their order.
+pub(crate) fn tidy_all(store: &[i64], work: &mut [u32], s: Sizes, allowance: usize) -> Tidied
+    requires { ⌜ Allowing (now store) (now work) s 0 allowance 0 ⌝ }
+    ensures { λ r. ⌜ TidiedAs (now (work .entry)) (now (work .exit)) s allowance r (tidied-all (points-in (now (store .entry)) (s .nodes)) allowance (arena-at (now (work .entry)) s)) ⌝ }
+{
+    let left = tidy_edges(store, work, s, 0, allowance, 0);
+    let top = then_tidy(store, work, left, 1, allowance);
+    let right = then_tidy(store, work, top, 2, allowance);
+    then_tidy(store, work, right, 3, allowance)
 }
