@@ -27,4 +27,5 @@ pub mod Settling
 pub mod Turning
 pub mod Tidying
 pub mod Building
+pub mod Later
 pub mod Reach
