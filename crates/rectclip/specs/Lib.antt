@@ -11,3 +11,9 @@ pub mod Crossing
 pub mod Pieces
 pub mod Promises
 pub mod Outlining
+pub mod Arenas
+pub mod Stored
+pub mod Rings
+pub mod Edges
+pub mod Paths
+pub mod Turns

@@ -1,0 +1,17 @@
+-- `rectclip::arena::owner_of` meets its contract: the cell read is the arena's entry.
+use mathlib.Core.Path.{sym, _∙_}
+use Rattle.rectclip.proofs.Arenas.{owner-at}
+use borrow.Author.Needs.{needs}
+use Rattle.rectclip.proofs.arena.owner_of.Statement.{statement}
+use Rattle.rectclip.proofs.arena.owner_of.Tie as tie
+
+get-requires : tie.Need-get-requires
+get-requires c κs = search needs
+
+returns : tie.Need-returns
+returns c =
+    let s : tie.Start = search in
+    c .get .ensures ∙ sym (owner-at (s .args .work .now) (s .args .s) (s .args .i) (s .pre .1))
+
+pub owner-of-spec : {M : Type 1} → statement M
+owner-of-spec = tie.close (tie.spec get-requires returns)
