@@ -28,4 +28,5 @@ pub mod Turning
 pub mod Tidying
 pub mod Building
 pub mod Later
+pub mod Executing
 pub mod Reach
