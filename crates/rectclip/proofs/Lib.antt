@@ -60,3 +60,5 @@ pub mod Building
 pub mod Later
 pub mod EdgeLists
 pub mod Turns
+pub mod Executing
+pub mod Reach

@@ -17,3 +17,4 @@ pub mod Rings
 pub mod Edges
 pub mod Paths
 pub mod Turns
+pub mod Clipping

@@ -4,6 +4,7 @@ pub mod answer;
 mod arena;
 mod closed;
 mod corners;
+mod clipping;
 mod edges;
 mod line_walk;
 pub mod lines;
