@@ -1,20 +1,17 @@
 -- What `add` leaves: the point that was added is the last one, the start sides are as they were, and a point that differs from the
 -- last one makes one point more. Assumes nothing.
 use mathlib.Core.Path.{_≡_, refl, sym, _∙_, ap, subst}
-use mathlib.Core.Bool.{Bool, true, false, _&&_, _||_}
-use mathlib.Core.List.{List, [], _∷_, _++_}
+use mathlib.Core.Bool.{Bool, true, false, _&&_}
+use mathlib.Core.List.{List, [], _∷_}
 use mathlib.Core.Logic.{_⊎_, inl, inr, ⊎-elim}
-use Prim.Native.Nat.{ℕ, zero, suc, _+_, _-_, _<_, _≤_}
+use Prim.Native.Nat.{ℕ, _+_, _-_, _<_}
 use native.Mathlib.Omega.{arith}
 use native.Mathlib.Decide.{ℕ-discrete}
-use lib.IntN.{ℤ}
-use lib.ListN.{length, getD, length-append}
-use lib.Seq.{getD-append-add}
+use lib.ListN.{length, length-append}
 use Rattle.integers.specs.Tests.{eqZ, eqZ-true}
 use Rattle.plane.specs.declared.point.Point64.{Point64}
-use Rattle.plane.specs.declared.location.Location.{Location}
 use Rattle.plane.specs.Basics.{push, Try, refuse, ok}
-use Rattle.plane.specs.Points.{origin, same-point, pt-at}
+use Rattle.plane.specs.Points.{same-point, pt-at}
 use Rattle.reference.specs.Walk.{Walk, add}
 use Rattle.rectclip.proofs.Adding.{add-first, add-new-full, add-new, add-same, add-full, add-longer}
 

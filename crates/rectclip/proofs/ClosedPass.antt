@@ -15,15 +15,14 @@ use Rattle.plane.specs.declared.location.Location.{Location}
 use Rattle.plane.specs.declared.location.Spot.{Spot}
 use Rattle.plane.specs.declared.crossing.Search.{Search}
 use Rattle.plane.specs.declared.crossing.Search.the-variants.{Missed, Found}
-use Rattle.plane.specs.Basics.{Try, refuse, ok, _>>=_}
+use Rattle.plane.specs.Basics.{ok, _>>=_}
 use Rattle.plane.specs.Intersection.{get-intersection}
 use Rattle.plane.specs.Limit.{rect-in-limit, Limited}
 use Rattle.plane.specs.Locations.{is-inside, same-location}
 use Rattle.plane.specs.Points.{same-point, pt-at, points-of}
 use Rattle.plane.specs.Rectangle.{mid-point, get-location}
 use Rattle.plane.specs.Signs.{is-clockwise-dir}
-use Rattle.reference.specs.Walk.{Walk, State, no-room, add, push-start-loc, push-start-locs, add-corners, add-corner-prev-curr, remain-outside, enter, pass-to, pass-through, leave, cross-boundary, pt-before, pass-from, get-next-location}
-use Rattle.reference.specs.Walk as def
+use Rattle.reference.specs.Walk.{no-room, add, push-start-loc, push-start-locs, add-corners, add-corner-prev-curr, remain-outside, enter, pass-to, pass-through, leave, cross-boundary, pt-before}
 use Rattle.rectclip.specs.declared.answer.Refusal.{Refusal}
 use Rattle.rectclip.specs.declared.answer.Refusal.the-variants.{CrossingLost}
 use Rattle.rectclip.specs.declared.walk.WalkState.{WalkState}
@@ -31,22 +30,18 @@ use Rattle.rectclip.specs.declared.walk.Step.{Step}
 use Rattle.rectclip.specs.declared.walk.Step.the-variants.{Walked}
 use Rattle.rectclip.specs.declared.walk.Step.the-variants as step
 use Rattle.rectclip.specs.declared.next.NextState.{NextState}
-use Rattle.rectclip.specs.declared.next.Move.{Move}
-use Rattle.rectclip.specs.declared.next.Move.the-variants.{To, Stopped}
-use Rattle.rectclip.specs.declared.closed.ClosedState.{ClosedState}
 use Rattle.rectclip.specs.declared.closed.Pass.{Pass}
 use Rattle.rectclip.specs.declared.closed.Advance.{Advance}
-use Rattle.rectclip.specs.declared.closed.Advance.the-variants.{On, Refused}
-use Rattle.rectclip.specs.Bounds.{Reached, Turn, SearchLimits, InReach}
-use Rattle.rectclip.specs.Walking.{walk-of, AddsCorners, Fits, Sheet, Stepped}
-use Rattle.rectclip.specs.Moving.{next-of, Moves, Moved}
-use Rattle.rectclip.specs.Closing.{closed-state-of, pass-of, advance-of, moves-on, first-of, enter-corners, pass-corner, pass-start, pass-in, pass-out, one-pass, Closes, Passing, Crossed, Advanced}
+use Rattle.rectclip.specs.declared.closed.Advance.the-variants.{Refused}
+use Rattle.rectclip.specs.Bounds.{Reached, Turn}
+use Rattle.rectclip.specs.Walking.{walk-of, AddsCorners, Fits, Stepped}
+use Rattle.rectclip.specs.Moving.{next-of}
+use Rattle.rectclip.specs.Closing.{pass-of, advance-of, moves-on, first-of, enter-corners, pass-corner, pass-start, pass-in, pass-out, Closes, Passing, Advanced}
 use Rattle.rectclip.proofs.Coordinates.{points-length}
 use Rattle.rectclip.proofs.Limits.{framed}
 use Rattle.rectclip.proofs.Reach.{reached}
-use Rattle.rectclip.proofs.Walking.{on-ok, on-refuse, step-walked}
-use Rattle.rectclip.proofs.Moving.{moved-is, stopped-is}
-use Rattle.rectclip.proofs.Closing.{advance-on, advance-refused, advance-as, step-as, step-next, step-lost, step-then, step-stops, step-ends, roomed, outside-starts, outside-corners, outside-stays, entry-first, entry-same, entry-corners, entry-parts, leave-parts, corner-passed, corner-none, start-first, start-none, in-parts, out-corner, out-point, pass-parts, through-missed, through-found, crossing-enters, crossing-passes, crossing-leaves}
+use Rattle.rectclip.proofs.Walking.{step-walked}
+use Rattle.rectclip.proofs.Closing.{advance-refused, advance-as, step-as, step-next, step-lost, step-then, step-stops, step-ends, roomed, outside-starts, outside-corners, outside-stays, entry-first, entry-same, entry-corners, entry-parts, leave-parts, corner-passed, corner-none, start-first, start-none, in-parts, out-corner, out-point, pass-parts, through-missed, through-found, crossing-enters, crossing-passes, crossing-leaves}
 
 -- ---- points within the limit
 half-size : (z : ℤ) → natAbs (quotZ z (pos 2)) ≡ natAbs z / 2
@@ -75,9 +70,6 @@ before-some path i h = rw (lt-ltb 0 i h) refl
 
 pub before-first : (path : List ℤ) (i : ℕ) → i ≤ 0 → pt-at (points-of path) (length path / 2 - 1) ≡ pt-before (points-of path) i
 before-first path i h = rw (le-ltb 0 i h, points-length path) refl
-
-pub before-limited : (path : List ℤ) (i : ℕ) → ((j : ℕ) → Limited (pt-at (points-of path) j)) → Limited (pt-before (points-of path) i)
-before-limited path i h = h _
 
 -- ---- no crossing is found
 abbrev pub room : List ℤ → ℕ → Bool

@@ -1,10 +1,9 @@
 -- A whole pass of the closed walk, and the loop of passes: what is left to do now comes to what there was to do at first. Assumes nothing.
-use mathlib.Core.Path.{_≡_, refl, sym, _∙_, ap, subst}
-use mathlib.Core.Bool.{Bool, true, false}
+use mathlib.Core.Path.{_≡_, refl, sym, _∙_, subst}
+use mathlib.Core.Bool.{Bool}
 use mathlib.Core.List.{List}
-use Prim.Native.Nat.{ℕ, zero, suc, _+_, _-_, _/_, _<_, _≤_}
+use Prim.Native.Nat.{ℕ, suc, _+_, _-_, _/_, _<_, _≤_}
 use native.Mathlib.Omega.{arith}
-use native.Mathlib.Numerals.{add-one}
 use borrow.Author.Tests.{lt-ltb, le-ltb}
 use lib.IntN.{ℤ}
 use lib.ListN.{length}
@@ -13,14 +12,13 @@ use Rattle.plane.specs.declared.rect.Rect64.{Rect64}
 use Rattle.plane.specs.declared.location.Location.{Location}
 use Rattle.plane.specs.declared.crossing.Search.{Search}
 use Rattle.plane.specs.declared.crossing.Search.the-variants.{Missed, Found}
-use Rattle.plane.specs.Basics.{Try, refuse, ok, _>>=_}
+use Rattle.plane.specs.Basics.{refuse, ok}
 use Rattle.plane.specs.Intersection.{get-intersection}
 use Rattle.plane.specs.Limit.{Limited}
 use Rattle.plane.specs.Points.{pt-at, points-of}
-use Rattle.reference.specs.Walk.{Walk, Next, State, no-room, remain-outside, cross-boundary, pt-before, pass-from, passes, get-next-location}
+use Rattle.reference.specs.Walk.{Walk, Next, State, remain-outside, cross-boundary, pt-before, pass-from, passes, get-next-location}
 use Rattle.rectclip.specs.declared.answer.Refusal.{Refusal}
 use Rattle.rectclip.specs.Answers.{number}
-use Rattle.rectclip.specs.declared.walk.WalkState.{WalkState}
 use Rattle.rectclip.specs.declared.walk.Step.the-variants.{Walked}
 use Rattle.rectclip.specs.declared.next.NextState.{NextState}
 use Rattle.rectclip.specs.declared.next.Move.{Move}
@@ -31,7 +29,7 @@ use Rattle.rectclip.specs.declared.closed.Advance.{Advance}
 use Rattle.rectclip.specs.declared.closed.Advance.the-variants.{On, Refused}
 use Rattle.rectclip.specs.Bounds.{SearchLimits}
 use Rattle.rectclip.specs.Walking.{walk-of, Fits, Sheet}
-use Rattle.rectclip.specs.Moving.{next-of, Moves, Moved}
+use Rattle.rectclip.specs.Moving.{next-of, Moved}
 use Rattle.rectclip.specs.Closing.{closed-state-of, pass-of, advance-of, one-pass, Closes, Advanced}
 use Rattle.rectclip.proofs.Coordinates.{points-length}
 use Rattle.rectclip.proofs.Limits.{path-limited, searches}

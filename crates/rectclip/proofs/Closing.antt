@@ -2,7 +2,7 @@
 use mathlib.Core.Path.{_≡_, refl, sym, _∙_, ap, subst}
 use mathlib.Core.Bool.{Bool, true, false}
 use mathlib.Core.List.{List}
-use Prim.Native.Nat.{ℕ, suc, _+_, _-_, _/_, _<_, _≤_}
+use Prim.Native.Nat.{ℕ, _+_, _/_, _<_, _≤_}
 use native.Mathlib.Omega.{arith}
 use borrow.Author.Tests.{le-leb, lt-leb}
 use lib.IntN.{ℤ}
@@ -10,13 +10,12 @@ use lib.ListN.{length}
 use Rattle.plane.specs.declared.point.Point64.{Point64}
 use Rattle.plane.specs.declared.rect.Rect64.{Rect64}
 use Rattle.plane.specs.declared.location.Location.{Location}
-use Rattle.plane.specs.declared.location.Spot.{Spot}
 use Rattle.plane.specs.declared.crossing.Search.{Search}
 use Rattle.plane.specs.declared.crossing.Search.the-variants.{Missed, Found}
 use Rattle.plane.specs.Basics.{Try, refuse, ok, _>>=_}
 use Rattle.plane.specs.Intersection.{get-intersection}
 use Rattle.plane.specs.Locations.{is-inside, same-location}
-use Rattle.plane.specs.Points.{same-point, pt-at, points-of}
+use Rattle.plane.specs.Points.{same-point, pt-at}
 use Rattle.plane.specs.Rectangle.{mid-point, get-location}
 use Rattle.plane.specs.Signs.{is-clockwise-dir}
 use Rattle.reference.specs.Walk.{Walk, State, no-room, add, push-start-loc, push-start-locs, add-corners, add-corner-prev-curr, remain-outside, enter, pass-to, pass-through, leave, cross-boundary, pt-before, pass-from}
@@ -27,16 +26,13 @@ use Rattle.rectclip.specs.declared.walk.WalkState.{WalkState}
 use Rattle.rectclip.specs.declared.walk.Step.{Step}
 use Rattle.rectclip.specs.declared.walk.Step.the-variants.{Walked}
 use Rattle.rectclip.specs.declared.walk.Step.the-variants as step
-use Rattle.rectclip.specs.declared.next.NextState.{NextState}
 use Rattle.rectclip.specs.declared.closed.ClosedState.{ClosedState}
 use Rattle.rectclip.specs.declared.closed.Pass.{Pass}
 use Rattle.rectclip.specs.declared.closed.Advance.{Advance}
 use Rattle.rectclip.specs.declared.closed.Advance.the-variants.{On, Refused}
 use Rattle.rectclip.specs.Walking.{walk-of, Fits, Stepped}
-use Rattle.rectclip.specs.Moving.{next-of}
-use Rattle.rectclip.specs.Closing.{closed-state-of, pass-of, advance-of, advanced, moves-on, first-of, enter-corners, pass-corner, pass-start, pass-in, pass-out, Advanced}
-use Rattle.rectclip.proofs.Coordinates.{points-length}
-use Rattle.rectclip.proofs.Walking.{on-ok, on-refuse, step-walked, step-refused, walked-is, refused-is}
+use Rattle.rectclip.specs.Closing.{closed-state-of, advance-of, moves-on, first-of, enter-corners, pass-corner, pass-start, pass-in, pass-out, Advanced}
+use Rattle.rectclip.proofs.Walking.{on-ok, on-refuse, step-refused, walked-is, refused-is}
 
 -- ---- how a pass ends
 module _ {goal : Try State} {store : List ℤ} {work : List ℕ} where
@@ -183,11 +179,11 @@ module _ (full : ℕ → Bool) (rect : Rect64) (at : def.Next) (pt ip ip2 : Poin
   unfolding pass-out
   out-point e = rw e refl
 
-bind-assoc : {A B C : Type 0} (t : Try A) (f : A → Try B) (g : B → Try C) → (t >>= f >>= g) ≡ (t >>= λ a. f a >>= g)
+pub bind-assoc : {A B C : Type 0} (t : Try A) (f : A → Try B) (g : B → Try C) → (t >>= f >>= g) ≡ (t >>= λ a. f a >>= g)
 bind-assoc (refuse n) f g = refl
 bind-assoc (ok a) f g = refl
 
-bind-ap : {A B : Type 0} (t : Try A) (f g : A → Try B) → ((a : A) → f a ≡ g a) → (t >>= f) ≡ (t >>= g)
+pub bind-ap : {A B : Type 0} (t : Try A) (f g : A → Try B) → ((a : A) → f a ≡ g a) → (t >>= f) ≡ (t >>= g)
 bind-ap (refuse n) f g e = refl
 bind-ap (ok a) f g e = e a
 

@@ -1,24 +1,19 @@
 -- The walk of a closed path: how it ends, what follows the `while`, and where the walk starts. Assumes nothing.
 use mathlib.Core.Path.{_≡_, refl, sym, _∙_, ap, subst}
 use mathlib.Core.Bool.{Bool, true, false, not, cond, _&&_, _||_}
-use mathlib.Core.List.{List, [], _∷_}
-use Prim.Native.Nat.{ℕ, zero, suc, _+_, _-_, _/_, _<_, _≤_}
+use mathlib.Core.List.{List, []}
+use Prim.Native.Nat.{ℕ, _≤_}
 use native.Mathlib.Omega.{arith}
 use lib.Dec.{ltb}
 use lib.IntN.{ℤ}
-use lib.ListN.{length, length-map}
-use Rattle.plane.specs.declared.point.Point64.{Point64}
+use lib.ListN.{length}
 use Rattle.plane.specs.declared.rect.Rect64.{Rect64}
 use Rattle.plane.specs.declared.location.Location.{Location}
-use Rattle.plane.specs.declared.location.Location.the-variants.{Inside}
-use Rattle.plane.specs.declared.location.Spot.{Spot}
-use Rattle.plane.specs.declared.crossing.Search.{Search}
-use Rattle.plane.specs.declared.crossing.Search.the-variants.{Missed, Found}
-use Rattle.plane.specs.Basics.{if_then_else_, is-nil, Try, refuse, ok, _>>=_}
+use Rattle.plane.specs.Basics.{if_then_else_, Try, refuse, ok, _>>=_}
 use Rattle.plane.specs.Locations.{is-inside, same-location, heading-clockwise, get-adjacent-location, start-locs-are-clockwise}
-use Rattle.plane.specs.Points.{pt-at, points-of}
-use Rattle.plane.specs.Rectangle.{is-empty, get-location}
-use Rattle.reference.specs.Walk.{Walk, State, no-room, nothing-yet, add-all, add-round, retrace, add-corner-loc, close-outline, last-off, passes, surround, after-while, walk-from, walk-closed}
+use Rattle.plane.specs.Points.{points-of}
+use Rattle.plane.specs.Rectangle.{is-empty}
+use Rattle.reference.specs.Walk.{Walk, State, add-all, add-round, retrace, add-corner-loc, close-outline, surround, after-while}
 use Rattle.reference.specs.Walk as def
 use Rattle.rectclip.specs.declared.answer.Refusal.{Refusal}
 use Rattle.rectclip.specs.declared.walk.WalkState.{WalkState}
@@ -26,22 +21,18 @@ use Rattle.rectclip.specs.declared.walk.Step.{Step}
 use Rattle.rectclip.specs.declared.walk.Step.the-variants.{Walked}
 use Rattle.rectclip.specs.declared.walk.Step.the-variants as step
 use Rattle.rectclip.specs.declared.closed.ClosedState.{ClosedState}
-use Rattle.rectclip.specs.declared.closed.Advance.{Advance}
-use Rattle.rectclip.specs.declared.closed.Advance.the-variants as advance
 use Rattle.rectclip.specs.declared.outline.Round.{Round}
-use Rattle.rectclip.specs.declared.outline.Round.the-variants.{Never, Clockwise, CounterClockwise}
+use Rattle.rectclip.specs.declared.outline.Round.the-variants.{Never}
 use Rattle.rectclip.specs.declared.outline.Outline.{Outline}
 use Rattle.rectclip.specs.declared.outline.Outlined.{Outlined}
 use Rattle.rectclip.specs.declared.outline.Outlined.the-variants.{Done, Refused}
 use Rattle.rectclip.specs.Answers.{number}
 use Rattle.rectclip.specs.Walking.{walk-of, turned, Fits, Stepped}
-use Rattle.rectclip.specs.Closing.{closed-state-of, Advanced}
+use Rattle.rectclip.specs.Closing.{closed-state-of}
 use Rattle.rectclip.specs.Outlining.{entered-of, entries, outlined, outline-of, round-of, round-corners, path-contains, corner-toward, close-walk, Drawn}
-use Rattle.rectclip.proofs.Coordinates.{points-length}
 use Rattle.rectclip.proofs.Walking.{on-ok, on-refuse, step-walked}
 use Rattle.rectclip.proofs.Adding.{walk-length}
-use Rattle.rectclip.proofs.Opening.{fresh, walk-fresh, fits-fresh}
-use Rattle.rectclip.proofs.Closing.{roomed, on-is, stopped-is}
+use Rattle.rectclip.proofs.Closing.{bind-assoc, bind-ap}
 use Rattle.rectclip.proofs.ClosedPass.{room}
 use Rattle.rectclip.proofs.StartSides.{sides, sides-length}
 use Rattle.rectclip.proofs.Retracing.{walk-sides}
@@ -124,14 +115,6 @@ module _ (rect : Rect64) (path store : List ℤ) (work : List ℕ) (s : WalkStat
       not-no false e = sym e
 
 -- ---- what follows the `while`
-bind-assoc : {A B C : Type 0} (t : Try A) (f : A → Try B) (g : B → Try C) → (t >>= f >>= g) ≡ (t >>= λ a. f a >>= g)
-bind-assoc (refuse n) f g = refl
-bind-assoc (ok a) f g = refl
-
-bind-ap : {A B : Type 0} (t : Try A) (f g : A → Try B) → ((a : A) → f a ≡ g a) → (t >>= f) ≡ (t >>= g)
-bind-ap (refuse n) f g e = refl
-bind-ap (ok a) f g e = e a
-
 -- the last corner, as the definition has it
 last-is : (full : ℕ → Bool) (rect : Rect64) (w : Walk) (p q : Location)
     → corner-toward full rect w p q ≡ (if not (same-location p q) then (add-corner-loc full rect w p (heading-clockwise p q) >>= λ u. ok (u .0)) else ok w)

@@ -1,16 +1,15 @@
 -- The rectangle's corners as a path: within the limit, added one way or the other, and asked whether the path contains them. Assumes nothing.
 use mathlib.Core.Path.{_≡_, refl, sym, _∙_, ap, subst}
-use mathlib.Core.Bool.{Bool, true, false, not, _&&_}
-use mathlib.Core.List.{List, [], _∷_}
-use Prim.Native.Nat.{ℕ, zero, suc, _+_, _/_, _%_, _<_, _≤_}
+use mathlib.Core.Bool.{Bool, true, false, not}
+use mathlib.Core.List.{List}
+use Prim.Native.Nat.{ℕ, zero, suc, _<_}
 use native.Mathlib.Omega.{arith}
 use borrow.Author.Tests.{le-leb, not-true, not-false}
 use lib.IntN.{ℤ}
-use lib.ListN.{length}
 use Rattle.plane.specs.declared.point.Point64.{Point64}
 use Rattle.plane.specs.declared.rect.Rect64.{Rect64}
 use Rattle.plane.specs.declared.location.Location.the-variants.{Left, Top, Right, Bottom}
-use Rattle.plane.specs.Limit.{in-limit, all-in-limit, rect-in-limit}
+use Rattle.plane.specs.Limit.{all-in-limit, rect-in-limit}
 use Rattle.plane.specs.Points.{pt-at, points-of, coordinates-of}
 use Rattle.plane.specs.Polygon.{path1-contains-path2}
 use Rattle.plane.specs.Rectangle.{as-path, mid-point, contains-point, get-bounds-path}

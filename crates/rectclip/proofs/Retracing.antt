@@ -1,9 +1,9 @@
 -- The end of a walk that is outside: back over the start sides, corner by corner, to the side that was crossed first. Assumes nothing.
-use mathlib.Core.Path.{_≡_, refl, sym, _∙_, ap, subst}
-use mathlib.Core.Bool.{Bool, true, false, cond}
+use mathlib.Core.Path.{_≡_, refl, sym, _∙_, ap}
+use mathlib.Core.Bool.{Bool, true, false}
 use mathlib.Core.List.{List, [], _∷_}
-use mathlib.Core.Logic.{_⊎_, inl, inr, ⊎-elim}
-use Prim.Native.Nat.{ℕ, zero, suc, _+_, _-_, _/_, _<_, _≤_}
+use mathlib.Core.Logic.{⊎-elim}
+use Prim.Native.Nat.{ℕ, suc, _+_, _<_, _≤_}
 use native.Mathlib.Omega.{arith}
 use native.Mathlib.Numerals.{add-one}
 use borrow.Author.Tests.{eqb-true}
@@ -15,20 +15,19 @@ use Rattle.plane.specs.declared.location.Location.{Location}
 use Rattle.plane.specs.declared.location.Location.the-variants.{Inside}
 use Rattle.plane.specs.Basics.{Try, refuse, ok, _>>=_}
 use Rattle.plane.specs.Locations.{side-number, same-location, heading-clockwise}
-use Rattle.reference.specs.Walk.{Walk, State, no-room, add, add-corner-loc, retrace}
+use Rattle.reference.specs.Walk.{Walk, State, add, add-corner-loc, retrace}
 use Rattle.rectclip.specs.declared.answer.Refusal.{Refusal}
 use Rattle.rectclip.specs.declared.walk.WalkState.{WalkState}
 use Rattle.rectclip.specs.declared.walk.Step.{Step}
 use Rattle.rectclip.specs.declared.walk.Step.the-variants.{Walked, Refused}
-use Rattle.rectclip.specs.Answers.{number}
 use Rattle.rectclip.specs.Memory.{at}
 use Rattle.rectclip.specs.Walking.{location, walk-of, turned, Fits, Stepped}
 use Rattle.rectclip.specs.Outlining.{corner-toward, close-walk}
-use Rattle.rectclip.proofs.Walking.{on-ok, on-refuse, step-walked, step-refused, walked-is, refused-is, Going, going-start}
+use Rattle.rectclip.proofs.Walking.{on-refuse, step-walked, step-refused, walked-is, refused-is, Going, going-start}
 use Rattle.rectclip.proofs.Turning.{location-number}
 use Rattle.rectclip.proofs.Closing.{step-as, roomed}
 use Rattle.rectclip.proofs.ClosedPass.{room}
-use Rattle.rectclip.proofs.Added.{either, Added, added}
+use Rattle.rectclip.proofs.Added.{either, added}
 use Rattle.rectclip.proofs.StartSides.{sides, sides-length, side-at}
 
 same-place : (p q : Location) → same-location p q ≡ true → p ≡ q

@@ -3,7 +3,7 @@
 use mathlib.Core.Path.{_≡_, refl, sym, _∙_, ap}
 use mathlib.Core.Bool.{Bool, true, false}
 use mathlib.Core.List.{List, [], _∷_, map}
-use Prim.Native.Nat.{ℕ, zero, suc, _+_, _-_, _<_, _≤_}
+use Prim.Native.Nat.{ℕ, zero, suc, _+_, _<_, _≤_}
 use native.Mathlib.Omega.{arith}
 use native.Mathlib.Numerals.{add-one}
 use lib.Dec.{ltb}
@@ -11,16 +11,15 @@ use lib.IntN.{ℤ, pos, negsuc, _+ℤ_, _-ℤ_}
 use lib.ListN.{length, getD, drop, length-map, length-drop, List·getD-map}
 use lib.Seq.{drop-cons}
 use lib.Signed.{ltZ}
-use Rattle.integers.specs.Ring.{Ex, var, con, _⊕_, _⊖_, ring}
+use Rattle.integers.specs.Ring.{var, con, _⊕_, _⊖_, ring}
 use Rattle.integers.specs.Tests.{ltZ-sub}
 use Rattle.plane.specs.declared.location.Location.{Location}
 use Rattle.plane.specs.declared.location.Location.the-variants.{Left, Top, Right, Bottom, Inside}
 use Rattle.plane.specs.Basics.{if_then_else_}
 use Rattle.plane.specs.Locations.{side-number, step-of, steps-of, start-locs-are-clockwise}
 use Rattle.rectclip.specs.declared.outline.Turns.{Turns}
-use Rattle.rectclip.specs.declared.walk.WalkState.{WalkState}
 use Rattle.rectclip.specs.Memory.{at, column}
-use Rattle.rectclip.specs.Walking.{location, walk-of}
+use Rattle.rectclip.specs.Walking.{location}
 use Rattle.rectclip.specs.Outlining.{steps-up, turned-by}
 use Rattle.rectclip.proofs.Columns.{column-length, column-at}
 

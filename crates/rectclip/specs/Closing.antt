@@ -2,16 +2,15 @@
 -- what its functions ask and what they ensure.
 use mathlib.Core.Path.{_≡_}
 use mathlib.Core.Bool.{Bool, true, false, not, _&&_}
-use mathlib.Core.List.{List, [], _∷_}
-use Prim.Native.Nat.{ℕ, _+_, _-_, _/_, _<_, _≤_}
+use mathlib.Core.List.{List}
+use Prim.Native.Nat.{ℕ, _<_}
 use lib.IntN.{ℤ}
-use lib.ListN.{length}
 use Rattle.plane.specs.declared.point.Point64.{Point64}
 use Rattle.plane.specs.declared.rect.Rect64.{Rect64}
 use Rattle.plane.specs.declared.location.Location.{Location}
 use Rattle.plane.specs.Basics.{if_then_else_, Try, refuse, ok, _>>=_}
 use Rattle.plane.specs.Limit.{rect-in-limit, Limited}
-use Rattle.plane.specs.Locations.{is-inside, same-location, heading-clockwise}
+use Rattle.plane.specs.Locations.{is-inside, same-location}
 use Rattle.plane.specs.Points.{same-point}
 use Rattle.plane.specs.Rectangle.{is-empty, mid-point, get-location}
 use Rattle.plane.specs.Signs.{is-clockwise-dir}

@@ -1,7 +1,7 @@
 -- The walk of a closed path on the lent lists: its answer as the definition's, and parts of what follows the `while` that the code
 -- has in functions of their own.
 use mathlib.Core.Path.{_≡_}
-use mathlib.Core.Bool.{Bool, true, false, not, _&&_, _||_}
+use mathlib.Core.Bool.{Bool, false, _&&_, _||_}
 use mathlib.Core.List.{List, [], _∷_}
 use Prim.Native.Nat.{ℕ, _+_, _-_, _/_, _%_, _≤_}
 use lib.Dec.{eqb}

@@ -36,6 +36,7 @@ pub(crate) enum Round {
     CounterClockwise,
 }
 
+// The walk, and how it went round the rectangle.
 pub(crate) struct Outline {
     pub walk: WalkState,
     pub round: Round,

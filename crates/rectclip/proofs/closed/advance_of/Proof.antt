@@ -1,9 +1,8 @@
-use mathlib.Core.Path.{refl, sym, _∙_}
+-- `advance_of` meets its contract, by the cases of a step. Assumes nothing.
+use mathlib.Core.Path.{refl}
 use borrow.Author.Needs.{needs}
 use Rattle.rectclip.proofs.closed.advance_of.Statement.{statement}
 use Rattle.rectclip.proofs.closed.advance_of.Tie as tie
-use Rattle.rectclip.proofs.closed.advance_of.Reads as reads
-use Rattle.rectclip.proofs.closed.advance_of.Lts as lts
 
 enum-known-r : tie.Need-enum-known-r
 enum-known-r c = search needs

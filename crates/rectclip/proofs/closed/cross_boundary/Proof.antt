@@ -1,13 +1,8 @@
+-- `cross_boundary` meets its contract: entering, exiting, or passing right through. Assumes nothing.
 use Rattle.rectclip.proofs.ClosedPass.{crossed-in, crossed-out, crossed-over}
 use borrow.Author.Needs.{needs}
 use Rattle.rectclip.proofs.closed.cross_boundary.Statement.{statement}
 use Rattle.rectclip.proofs.closed.cross_boundary.Tie as tie
-use Rattle.rectclip.proofs.closed.cross_boundary.Reads as reads
-use Rattle.rectclip.proofs.closed.cross_boundary.Lts as lts
-use Rattle.plane.proofs.location.Location.is_inside.Reads as is-inside-reads
-use Rattle.rectclip.proofs.closed.enter.Reads as enter-reads
-use Rattle.rectclip.proofs.closed.leave.Reads as leave-reads
-use Rattle.rectclip.proofs.closed.pass_through.Reads as pass-through-reads
 
 is-inside-requires : tie.Need-is-inside-requires
 is-inside-requires c κs = search needs

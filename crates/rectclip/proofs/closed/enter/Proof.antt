@@ -1,13 +1,8 @@
+-- `enter` meets its contract: what comes before the point of entry, then the point. Assumes nothing.
 use Rattle.rectclip.proofs.ClosedPass.{enter-walked, enter-refused}
 use borrow.Author.Needs.{needs}
 use Rattle.rectclip.proofs.closed.enter.Statement.{statement}
 use Rattle.rectclip.proofs.closed.enter.Tie as tie
-use Rattle.rectclip.proofs.closed.enter.Reads as reads
-use Rattle.rectclip.proofs.closed.enter.Lts as lts
-use Rattle.rectclip.proofs.closed.advance_of.Reads as advance-of-reads
-use Rattle.rectclip.proofs.closed.enter_corners.Reads as enter-corners-reads
-use Rattle.rectclip.proofs.closed.first_of.Reads as first-of-reads
-use Rattle.rectclip.proofs.walk.add.Reads as add-reads
 
 first-of-requires : tie.Need-first-of-requires
 first-of-requires c κs = search needs

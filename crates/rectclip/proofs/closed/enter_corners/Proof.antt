@@ -1,14 +1,8 @@
+-- `enter_corners` meets its contract: a start side, no corner, or the corners on the way. Assumes nothing.
 use Rattle.rectclip.proofs.ClosedPass.{corners-of, corners-first, corners-same, corners-other}
 use borrow.Author.Needs.{needs}
 use Rattle.rectclip.proofs.closed.enter_corners.Statement.{statement}
 use Rattle.rectclip.proofs.closed.enter_corners.Tie as tie
-use Rattle.rectclip.proofs.closed.enter_corners.Reads as reads
-use Rattle.rectclip.proofs.closed.enter_corners.Lts as lts
-use Rattle.plane.proofs.location.Location.equals.Reads as equals-reads
-use Rattle.plane.proofs.location.Location.is_inside.Reads as is-inside-reads
-use Rattle.rectclip.proofs.closed.goes_clockwise.Reads as goes-clockwise-reads
-use Rattle.rectclip.proofs.corners.add_corners.Reads as add-corners-reads
-use Rattle.rectclip.proofs.walk.push_start_loc.Reads as push-start-loc-reads
 
 is-inside-requires : tie.Need-is-inside-requires
 is-inside-requires c κs = search needs

@@ -1,10 +1,8 @@
+-- `first_of` meets its contract. Assumes nothing.
 use mathlib.Core.Path.{refl, sym, _∙_}
 use borrow.Author.Needs.{needs}
 use Rattle.rectclip.proofs.closed.first_of.Statement.{statement}
 use Rattle.rectclip.proofs.closed.first_of.Tie as tie
-use Rattle.rectclip.proofs.closed.first_of.Reads as reads
-use Rattle.rectclip.proofs.closed.first_of.Lts as lts
-use Rattle.plane.proofs.location.Location.is_inside.Reads as is-inside-reads
 
 is-inside-requires : tie.Need-is-inside-requires
 is-inside-requires c κs = search needs

@@ -1,12 +1,8 @@
+-- `goes_clockwise` meets its contract; the mid point is within reach. Assumes nothing.
 use Rattle.rectclip.proofs.ClosedPass.{turn-limited}
-use mathlib.Core.Path.{refl, sym, _∙_}
 use borrow.Author.Needs.{needs}
 use Rattle.rectclip.proofs.closed.goes_clockwise.Statement.{statement}
 use Rattle.rectclip.proofs.closed.goes_clockwise.Tie as tie
-use Rattle.rectclip.proofs.closed.goes_clockwise.Reads as reads
-use Rattle.rectclip.proofs.closed.goes_clockwise.Lts as lts
-use Rattle.plane.proofs.rect.Rect64.mid_point.Reads as mid-point-reads
-use Rattle.rectclip.proofs.segment.is_clockwise_dir.Reads as is-clockwise-dir-reads
 
 mid-point-requires : tie.Need-mid-point-requires
 mid-point-requires c κs = search needs

@@ -1,12 +1,8 @@
+-- `leave` meets its contract, by `add`. Assumes nothing.
 use Rattle.rectclip.proofs.ClosedPass.{leave-added}
 use borrow.Author.Needs.{needs}
 use Rattle.rectclip.proofs.closed.leave.Statement.{statement}
 use Rattle.rectclip.proofs.closed.leave.Tie as tie
-use Rattle.rectclip.proofs.closed.leave.Reads as reads
-use Rattle.rectclip.proofs.closed.leave.Lts as lts
-use Rattle.rectclip.proofs.closed.advance_of.Reads as advance-of-reads
-use Rattle.rectclip.proofs.closed.first_of.Reads as first-of-reads
-use Rattle.rectclip.proofs.walk.add.Reads as add-reads
 
 first-of-requires : tie.Need-first-of-requires
 first-of-requires c κs = search needs

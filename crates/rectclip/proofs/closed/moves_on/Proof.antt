@@ -1,11 +1,8 @@
-use mathlib.Core.Path.{refl, sym, _∙_}
+-- `moves_on` meets its contract. Assumes nothing.
+use mathlib.Core.Path.{refl}
 use borrow.Author.Needs.{needs}
 use Rattle.rectclip.proofs.closed.moves_on.Statement.{statement}
 use Rattle.rectclip.proofs.closed.moves_on.Tie as tie
-use Rattle.rectclip.proofs.closed.moves_on.Reads as reads
-use Rattle.rectclip.proofs.closed.moves_on.Lts as lts
-use Rattle.plane.proofs.location.Location.equals.Reads as equals-reads
-use Rattle.plane.proofs.location.Location.is_inside.Reads as is-inside-reads
 
 is-inside-requires : tie.Need-is-inside-requires
 is-inside-requires c κs = search needs

@@ -1,11 +1,8 @@
+-- `one_pass` meets its contract: `get_next_location`, and what follows it. Assumes nothing.
 use Rattle.rectclip.proofs.ClosedPasses.{pass-went, pass-lost}
 use borrow.Author.Needs.{needs}
 use Rattle.rectclip.proofs.closed.one_pass.Statement.{statement}
 use Rattle.rectclip.proofs.closed.one_pass.Tie as tie
-use Rattle.rectclip.proofs.closed.one_pass.Reads as reads
-use Rattle.rectclip.proofs.closed.one_pass.Lts as lts
-use Rattle.rectclip.proofs.closed.pass_from.Reads as pass-from-reads
-use Rattle.rectclip.proofs.next.get_next_location.Reads as get-next-location-reads
 
 get-next-location-requires : tie.Need-get-next-location-requires
 get-next-location-requires c κs = search needs

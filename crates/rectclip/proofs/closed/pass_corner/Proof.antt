@@ -1,11 +1,8 @@
+-- `pass_corner` meets its contract, by `add_corner_prev_curr`. Assumes nothing.
 use Rattle.rectclip.proofs.ClosedPass.{corner-turned, corner-kept}
 use borrow.Author.Needs.{needs}
 use Rattle.rectclip.proofs.closed.pass_corner.Statement.{statement}
 use Rattle.rectclip.proofs.closed.pass_corner.Tie as tie
-use Rattle.rectclip.proofs.closed.pass_corner.Reads as reads
-use Rattle.rectclip.proofs.closed.pass_corner.Lts as lts
-use Rattle.rectclip.proofs.closed.moves_on.Reads as moves-on-reads
-use Rattle.rectclip.proofs.corners.add_corner_prev_curr.Reads as add-corner-prev-curr-reads
 
 moves-on-requires : tie.Need-moves-on-requires
 moves-on-requires c κs = search needs

@@ -1,16 +1,9 @@
+-- `pass_from` meets its contract: past the last point, no crossing, or a crossing. Assumes nothing.
 use native.Mathlib.Omega.{arith}
 use Rattle.rectclip.proofs.ClosedPasses.{segment-limited, pass-limited, from-ended, from-outside, from-crossed}
 use borrow.Author.Needs.{needs}
 use Rattle.rectclip.proofs.closed.pass_from.Statement.{statement}
 use Rattle.rectclip.proofs.closed.pass_from.Tie as tie
-use Rattle.rectclip.proofs.closed.pass_from.Reads as reads
-use Rattle.rectclip.proofs.closed.pass_from.Lts as lts
-use Rattle.rectclip.proofs.closed.advance_of.Reads as advance-of-reads
-use Rattle.rectclip.proofs.closed.cross_boundary.Reads as cross-boundary-reads
-use Rattle.rectclip.proofs.closed.point_before.Reads as point-before-reads
-use Rattle.rectclip.proofs.closed.remain_outside.Reads as remain-outside-reads
-use Rattle.rectclip.proofs.lists.point_at.Reads as point-at-reads
-use Rattle.rectclip.proofs.search.get_intersection.Reads as get-intersection-reads
 
 advance-of-requires : tie.Need-advance-of-requires
 advance-of-requires c κs = search needs

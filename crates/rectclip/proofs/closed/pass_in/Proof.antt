@@ -1,12 +1,8 @@
+-- `pass_in` meets its contract: the corner, the start side, and the point, each where the one before was not refused. Assumes nothing.
 use Rattle.rectclip.proofs.ClosedPass.{corners-of, in-lost, in-stopped, in-added}
 use borrow.Author.Needs.{needs}
 use Rattle.rectclip.proofs.closed.pass_in.Statement.{statement}
 use Rattle.rectclip.proofs.closed.pass_in.Tie as tie
-use Rattle.rectclip.proofs.closed.pass_in.Reads as reads
-use Rattle.rectclip.proofs.closed.pass_in.Lts as lts
-use Rattle.rectclip.proofs.closed.pass_corner.Reads as pass-corner-reads
-use Rattle.rectclip.proofs.closed.pass_start.Reads as pass-start-reads
-use Rattle.rectclip.proofs.walk.add.Reads as add-reads
 
 pass-corner-requires : tie.Need-pass-corner-requires
 pass-corner-requires c κs = corners-of (c .before .before .before .before .pre .passing)

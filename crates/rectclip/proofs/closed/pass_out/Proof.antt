@@ -1,14 +1,8 @@
+-- `pass_out` meets its contract: a corner where the segment touches in one point, else the point. Assumes nothing.
 use Rattle.rectclip.proofs.ClosedPass.{out-turned, out-added}
 use borrow.Author.Needs.{needs}
 use Rattle.rectclip.proofs.closed.pass_out.Statement.{statement}
 use Rattle.rectclip.proofs.closed.pass_out.Tie as tie
-use Rattle.rectclip.proofs.closed.pass_out.Reads as reads
-use Rattle.rectclip.proofs.closed.pass_out.Lts as lts
-use Rattle.plane.proofs.point.Point64.equals.Reads as equals-reads
-use Rattle.plane.proofs.rect.Rect64.get_location.Reads as get-location-reads
-use Rattle.rectclip.proofs.closed.advance_of.Reads as advance-of-reads
-use Rattle.rectclip.proofs.corners.add_corner_prev_curr.Reads as add-corner-prev-curr-reads
-use Rattle.rectclip.proofs.walk.add.Reads as add-reads
 
 equals-requires : tie.Need-equals-requires
 equals-requires c κs = search needs

@@ -1,12 +1,9 @@
+-- `pass_start` meets its contract, by `push_start_loc`. Assumes nothing.
 use Rattle.plane.specs.Rectangle.{no-bounds}
 use Rattle.rectclip.proofs.ClosedPass.{start-pushed, start-kept}
 use borrow.Author.Needs.{needs}
 use Rattle.rectclip.proofs.closed.pass_start.Statement.{statement}
 use Rattle.rectclip.proofs.closed.pass_start.Tie as tie
-use Rattle.rectclip.proofs.closed.pass_start.Reads as reads
-use Rattle.rectclip.proofs.closed.pass_start.Lts as lts
-use Rattle.plane.proofs.location.Location.is_inside.Reads as is-inside-reads
-use Rattle.rectclip.proofs.walk.push_start_loc.Reads as push-start-loc-reads
 
 is-inside-requires : tie.Need-is-inside-requires
 is-inside-requires c κs = search needs

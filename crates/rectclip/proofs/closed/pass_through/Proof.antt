@@ -1,12 +1,9 @@
+-- `pass_through` meets its contract: refusal 9, or in and out at what the two searches found. Assumes nothing.
 use Rattle.rectclip.proofs.ClosedPass.{lost, found}
 use Rattle.rectclip.proofs.Limits.{searches}
 use borrow.Author.Needs.{needs}
 use Rattle.rectclip.proofs.closed.pass_through.Statement.{statement}
 use Rattle.rectclip.proofs.closed.pass_through.Tie as tie
-use Rattle.rectclip.proofs.closed.pass_through.Reads as reads
-use Rattle.rectclip.proofs.closed.pass_through.Lts as lts
-use Rattle.rectclip.proofs.closed.pass_to.Reads as pass-to-reads
-use Rattle.rectclip.proofs.search.get_intersection.Reads as get-intersection-reads
 
 get-intersection-requires : tie.Need-get-intersection-requires
 get-intersection-requires c κs = searches (c .before .before .before .pre .passing .closes .frame) (c .before .before .before .pre .passing .closes .start) (c .before .before .before .pre .passing .closes .end)

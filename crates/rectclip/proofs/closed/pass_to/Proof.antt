@@ -1,12 +1,8 @@
+-- `pass_to` meets its contract: in and out. Assumes nothing.
 use Rattle.rectclip.proofs.ClosedPass.{to-lost, to-out}
 use borrow.Author.Needs.{needs}
 use Rattle.rectclip.proofs.closed.pass_to.Statement.{statement}
 use Rattle.rectclip.proofs.closed.pass_to.Tie as tie
-use Rattle.rectclip.proofs.closed.pass_to.Reads as reads
-use Rattle.rectclip.proofs.closed.pass_to.Lts as lts
-use Rattle.rectclip.proofs.closed.first_of.Reads as first-of-reads
-use Rattle.rectclip.proofs.closed.pass_in.Reads as pass-in-reads
-use Rattle.rectclip.proofs.closed.pass_out.Reads as pass-out-reads
 
 first-of-requires : tie.Need-first-of-requires
 first-of-requires c κs = search needs

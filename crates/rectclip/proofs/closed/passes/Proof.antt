@@ -1,12 +1,10 @@
+-- `passes` meets its contract: what is left to do after each pass comes to what there was to do at first. Assumes nothing.
 use borrow.Author.Needs.{needs}
 use native.Mathlib.Omega.{arith}
 use mathlib.Core.Path.{_∙_}
 use Rattle.rectclip.proofs.ClosedPasses.{ClosedGoing, passes-start, passes-past, passes-lost, passes-again, passes-done}
 use Rattle.rectclip.proofs.closed.passes.Statement.{statement}
 use Rattle.rectclip.proofs.closed.passes.Tie as tie
-use Rattle.rectclip.proofs.closed.passes.Reads as reads
-use Rattle.rectclip.proofs.closed.passes.Lts as lts
-use Rattle.rectclip.proofs.closed.one_pass.Reads as one-pass-reads
 
 abbrev Inv-loop : tie.InvT-loop
 Inv-loop rect path store₀ work₀ n s₀ left₀ store work s left = ClosedGoing rect path store₀ work₀ s₀ store work s left

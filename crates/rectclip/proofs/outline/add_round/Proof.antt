@@ -1,13 +1,9 @@
+-- `add_round` meets its contract, by `add_all` of the corners. Assumes nothing.
 use mathlib.Core.Bool.{true, false}
 use Rattle.rectclip.proofs.RectPath.{round-adds, round-added}
 use borrow.Author.Needs.{needs}
 use Rattle.rectclip.proofs.outline.add_round.Statement.{statement}
 use Rattle.rectclip.proofs.outline.add_round.Tie as tie
-use Rattle.rectclip.proofs.outline.add_round.Reads as reads
-use Rattle.rectclip.proofs.outline.add_round.Lts as lts
-use Rattle.plane.proofs.rect.Rect64.corners.Reads as corners-reads
-use Rattle.rectclip.proofs.outline.corners_back.Reads as corners-back-reads
-use Rattle.rectclip.proofs.walk.add_all.Reads as add-all-reads
 
 corners-requires : tie.Need-corners-requires
 corners-requires c κs = search needs

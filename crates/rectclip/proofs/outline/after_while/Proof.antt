@@ -1,15 +1,9 @@
+-- `after_while` meets its contract, by its four cases. Assumes nothing.
 use mathlib.Core.Path.{refl}
 use Rattle.rectclip.proofs.Outlining.{after-inside, after-surround, after-closes, after-stays}
 use borrow.Author.Needs.{needs}
 use Rattle.rectclip.proofs.outline.after_while.Statement.{statement}
 use Rattle.rectclip.proofs.outline.after_while.Tie as tie
-use Rattle.rectclip.proofs.outline.after_while.Reads as reads
-use Rattle.rectclip.proofs.outline.after_while.Lts as lts
-use Rattle.plane.proofs.location.Location.equals.Reads as equals-reads
-use Rattle.plane.proofs.location.Location.is_inside.Reads as is-inside-reads
-use Rattle.rectclip.proofs.outline.close_outline.Reads as close-outline-reads
-use Rattle.rectclip.proofs.outline.outline_of.Reads as outline-of-reads
-use Rattle.rectclip.proofs.outline.surround.Reads as surround-reads
 
 is-inside-requires : tie.Need-is-inside-requires
 is-inside-requires c κs = search needs

@@ -1,16 +1,13 @@
+-- `close_outline` meets its contract: each turn goes one start side back. Assumes nothing.
 use Rattle.rectclip.proofs.Closing.{step-as}
 use Rattle.rectclip.proofs.Retracing.{Retracing, close-parts, retrace-start, sides-kept, retrace-again, retrace-lost, retrace-done}
 use Prim.Native.Nat.{_-_}
 use borrow.Author.Needs.{needs}
 use native.Mathlib.Omega.{arith}
-use mathlib.Core.Path.{refl, _∙_}
+use mathlib.Core.Path.{_∙_}
 use Rattle.rectclip.proofs.Retracing.{Retracing, retrace-start, sides-kept, retrace-again, retrace-lost, retrace-done}
 use Rattle.rectclip.proofs.outline.close_outline.Statement.{statement}
 use Rattle.rectclip.proofs.outline.close_outline.Tie as tie
-use Rattle.rectclip.proofs.outline.close_outline.Reads as reads
-use Rattle.rectclip.proofs.outline.close_outline.Lts as lts
-use Rattle.rectclip.proofs.outline.corner_toward.Reads as corner-toward-reads
-use Rattle.rectclip.proofs.outline.start_loc.Reads as start-loc-reads
 
 abbrev Inv-loop : tie.InvT-loop
 Inv-loop rect store₀ work₀ first w₀ p₀ n i₀ store work w p i = Retracing rect first store₀ work₀ w₀ p₀ store work w p i

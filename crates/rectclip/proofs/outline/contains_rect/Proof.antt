@@ -1,14 +1,8 @@
+-- `contains_rect` meets its contract: bounds first, then the corners. Assumes nothing.
 use Rattle.rectclip.proofs.RectPath.{both-paths, contains-none, contains-asked}
 use borrow.Author.Needs.{needs}
 use Rattle.rectclip.proofs.outline.contains_rect.Statement.{statement}
 use Rattle.rectclip.proofs.outline.contains_rect.Tie as tie
-use Rattle.rectclip.proofs.outline.contains_rect.Reads as reads
-use Rattle.rectclip.proofs.outline.contains_rect.Lts as lts
-use Rattle.plane.proofs.rect.Rect64.contains_point.Reads as contains-point-reads
-use Rattle.plane.proofs.rect.Rect64.corners.Reads as corners-reads
-use Rattle.plane.proofs.rect.Rect64.mid_point.Reads as mid-point-reads
-use Rattle.rectclip.proofs.polygon.path1_contains_path2.Reads as path1-contains-path2-reads
-use Rattle.rectclip.proofs.survey.get_bounds_path.Reads as get-bounds-path-reads
 
 get-bounds-path-requires : tie.Need-get-bounds-path-requires
 get-bounds-path-requires c κs = search needs

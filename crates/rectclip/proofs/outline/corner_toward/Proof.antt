@@ -1,12 +1,8 @@
+-- `corner_toward` meets its contract, by `add_corner_loc`. Assumes nothing.
 use Rattle.rectclip.proofs.Retracing.{toward-kept, toward-added}
 use borrow.Author.Needs.{needs}
 use Rattle.rectclip.proofs.outline.corner_toward.Statement.{statement}
 use Rattle.rectclip.proofs.outline.corner_toward.Tie as tie
-use Rattle.rectclip.proofs.outline.corner_toward.Reads as reads
-use Rattle.rectclip.proofs.outline.corner_toward.Lts as lts
-use Rattle.plane.proofs.location.Location.equals.Reads as equals-reads
-use Rattle.plane.proofs.location.Location.heading_clockwise.Reads as heading-clockwise-reads
-use Rattle.rectclip.proofs.corners.add_corner_loc.Reads as add-corner-loc-reads
 
 equals-requires : tie.Need-equals-requires
 equals-requires c κs = search needs

@@ -1,12 +1,9 @@
+-- `last_off` meets its contract: the search backwards. Assumes nothing.
 use borrow.Author.Needs.{needs}
 use native.Mathlib.Omega.{arith}
 use Rattle.rectclip.proofs.ClosedWalk.{Seeking, seek-start, seek-found, seek-again, seek-ends}
 use Rattle.rectclip.proofs.outline.last_off.Statement.{statement}
 use Rattle.rectclip.proofs.outline.last_off.Tie as tie
-use Rattle.rectclip.proofs.outline.last_off.Reads as reads
-use Rattle.rectclip.proofs.outline.last_off.Lts as lts
-use Rattle.plane.proofs.rect.Rect64.get_location.Reads as get-location-reads
-use Rattle.rectclip.proofs.lists.point_at.Reads as point-at-reads
 
 abbrev Inv-loop : tie.InvT-loop
 Inv-loop rect path n i₀ i = Seeking rect path n i

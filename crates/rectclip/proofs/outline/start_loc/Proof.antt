@@ -1,11 +1,9 @@
+-- `start_loc` meets its contract. Assumes nothing.
 use native.Mathlib.Omega.{arith}
 use Rattle.rectclip.proofs.StartSides.{location-is, location-rest}
 use borrow.Author.Needs.{needs}
 use Rattle.rectclip.proofs.outline.start_loc.Statement.{statement}
 use Rattle.rectclip.proofs.outline.start_loc.Tie as tie
-use Rattle.rectclip.proofs.outline.start_loc.Reads as reads
-use Rattle.rectclip.proofs.outline.start_loc.Lts as lts
-use Rattle.rectclip.proofs.lists.get.Reads as get-reads
 
 get-requires : tie.Need-get-requires
 get-requires c κs = search needs

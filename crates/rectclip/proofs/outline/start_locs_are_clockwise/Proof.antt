@@ -1,13 +1,9 @@
+-- `start_locs_are_clockwise` meets its contract: steps counted each way come to the definition's sum. Assumes nothing.
 use Prim.Native.Nat.{_-_}
-use borrow.Author.Needs.{needs}
 use native.Mathlib.Omega.{arith}
 use Rattle.rectclip.proofs.StartSides.{Counting, count-start, count-again, count-done}
 use Rattle.rectclip.proofs.outline.start_locs_are_clockwise.Statement.{statement}
 use Rattle.rectclip.proofs.outline.start_locs_are_clockwise.Tie as tie
-use Rattle.rectclip.proofs.outline.start_locs_are_clockwise.Reads as reads
-use Rattle.rectclip.proofs.outline.start_locs_are_clockwise.Lts as lts
-use Rattle.rectclip.proofs.outline.start_loc.Reads as start-loc-reads
-use Rattle.rectclip.proofs.outline.turned_by.Reads as turned-by-reads
 
 abbrev Inv-loop : tie.InvT-loop
 Inv-loop work n t₀ i₀ t i = Counting work n t i

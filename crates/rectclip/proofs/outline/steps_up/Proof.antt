@@ -1,12 +1,10 @@
+-- `steps_up` meets its contract. Assumes nothing.
 use Rattle.rectclip.proofs.StartSides.{number-small}
 use native.Mathlib.Omega.{arith}
 use mathlib.Core.Path.{refl}
 use borrow.Author.Needs.{needs}
 use Rattle.rectclip.proofs.outline.steps_up.Statement.{statement}
 use Rattle.rectclip.proofs.outline.steps_up.Tie as tie
-use Rattle.rectclip.proofs.outline.steps_up.Reads as reads
-use Rattle.rectclip.proofs.outline.steps_up.Lts as lts
-use Rattle.plane.proofs.location.Location.number.Reads as number-reads
 
 number-requires : tie.Need-number-requires
 number-requires c κs = search needs

@@ -1,15 +1,9 @@
+-- `surround` meets its contract: nothing, or the four corners. Assumes nothing.
 use native.Mathlib.Omega.{arith}
 use Rattle.rectclip.proofs.Outlining.{surround-none, surround-all}
 use borrow.Author.Needs.{needs}
 use Rattle.rectclip.proofs.outline.surround.Statement.{statement}
 use Rattle.rectclip.proofs.outline.surround.Tie as tie
-use Rattle.rectclip.proofs.outline.surround.Reads as reads
-use Rattle.rectclip.proofs.outline.surround.Lts as lts
-use Rattle.rectclip.proofs.outline.add_round.Reads as add-round-reads
-use Rattle.rectclip.proofs.outline.contains_rect.Reads as contains-rect-reads
-use Rattle.rectclip.proofs.outline.outline_of.Reads as outline-of-reads
-use Rattle.rectclip.proofs.outline.round_of.Reads as round-of-reads
-use Rattle.rectclip.proofs.outline.start_locs_are_clockwise.Reads as start-locs-are-clockwise-reads
 
 contains-rect-requires : tie.Need-contains-rect-requires
 contains-rect-requires c κs = c .before .pre .paired

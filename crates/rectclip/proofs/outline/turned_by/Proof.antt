@@ -1,10 +1,8 @@
+-- `turned_by` meets its contract. Assumes nothing.
 use mathlib.Core.Path.{refl, sym, _∙_}
 use borrow.Author.Needs.{needs}
 use Rattle.rectclip.proofs.outline.turned_by.Statement.{statement}
 use Rattle.rectclip.proofs.outline.turned_by.Tie as tie
-use Rattle.rectclip.proofs.outline.turned_by.Reads as reads
-use Rattle.rectclip.proofs.outline.turned_by.Lts as lts
-use Rattle.rectclip.proofs.outline.steps_up.Reads as steps-up-reads
 
 steps-up-requires : tie.Need-steps-up-requires
 steps-up-requires c κs = search needs

@@ -1,18 +1,8 @@
-use native.Mathlib.Omega.{arith}
+-- `walk_closed` meets its contract: no points, off the edges at once, all on the edges, or the last point off them tells. Assumes nothing.
 use Rattle.rectclip.proofs.ClosedWalk.{new-fits, walk-none, walk-off, walk-edges, walk-inside, walk-outside}
 use borrow.Author.Needs.{needs}
 use Rattle.rectclip.proofs.outline.walk_closed.Statement.{statement}
 use Rattle.rectclip.proofs.outline.walk_closed.Tie as tie
-use Rattle.rectclip.proofs.outline.walk_closed.Reads as reads
-use Rattle.rectclip.proofs.outline.walk_closed.Lts as lts
-use Rattle.plane.proofs.location.Location.is_inside.Reads as is-inside-reads
-use Rattle.plane.proofs.rect.Rect64.get_location.Reads as get-location-reads
-use Rattle.rectclip.proofs.lists.point_at.Reads as point-at-reads
-use Rattle.rectclip.proofs.outline.last_off.Reads as last-off-reads
-use Rattle.rectclip.proofs.outline.outline_of.Reads as outline-of-reads
-use Rattle.rectclip.proofs.outline.walk_from.Reads as walk-from-reads
-use Rattle.rectclip.proofs.walk.WalkState.new.Reads as new-reads
-use Rattle.rectclip.proofs.walk.add_all.Reads as add-all-reads
 
 new-requires : tie.Need-new-requires
 new-requires c κs = search needs

@@ -1,12 +1,8 @@
+-- `walk_from` meets its contract: the passes, and what follows them. Assumes nothing.
 use Rattle.rectclip.proofs.ClosedWalk.{start-fits, from-on, from-lost}
 use borrow.Author.Needs.{needs}
 use Rattle.rectclip.proofs.outline.walk_from.Statement.{statement}
 use Rattle.rectclip.proofs.outline.walk_from.Tie as tie
-use Rattle.rectclip.proofs.outline.walk_from.Reads as reads
-use Rattle.rectclip.proofs.outline.walk_from.Lts as lts
-use Rattle.rectclip.proofs.closed.ClosedState.new.Reads as new-reads
-use Rattle.rectclip.proofs.closed.passes.Reads as passes-reads
-use Rattle.rectclip.proofs.outline.after_while.Reads as after-while-reads
 
 new-requires : tie.Need-new-requires
 new-requires c κs = search needs

@@ -1,10 +1,8 @@
-use mathlib.Core.Path.{refl, sym, _∙_}
+-- The first state of the closed walk has nothing yet. Assumes nothing.
+use mathlib.Core.Path.{refl}
 use borrow.Author.Needs.{needs}
 use Rattle.rectclip.proofs.closed.ClosedState.new.Statement.{statement}
 use Rattle.rectclip.proofs.closed.ClosedState.new.Tie as tie
-use Rattle.rectclip.proofs.closed.ClosedState.new.Reads as reads
-use Rattle.rectclip.proofs.closed.ClosedState.new.Lts as lts
-use Rattle.rectclip.proofs.walk.WalkState.new.Reads as new-reads
 
 new-requires : tie.Need-new-requires
 new-requires c κs = search needs
