@@ -61,4 +61,3 @@ pub mod Later
 pub mod EdgeLists
 pub mod Turns
 pub mod Executing
-pub mod Reach

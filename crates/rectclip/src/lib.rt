@@ -2,9 +2,9 @@
 // The public entries are total; what needs a bound is private.
 pub mod answer;
 mod arena;
+mod clipping;
 mod closed;
 mod corners;
-mod clipping;
 mod edges;
 mod line_walk;
 pub mod lines;
