@@ -1,0 +1,143 @@
+-- What the exported functions hand over, from what the entries promise. Assumes nothing.
+use mathlib.Core.Path.{_≡_, refl, sym, _∙_, ap, subst}
+use mathlib.Core.Bool.{Bool, true, false, _||_}
+use mathlib.Core.List.{List, [], _∷_, _++_, map}
+use Prim.Native.Nat.{ℕ, suc, _+_, _/_, _<_, _≤_}
+use native.Mathlib.Omega.{arith}
+use lib.ListN.{length, set, drop}
+use lib.IntN.{ℤ}
+use lib.Dec.{T, eqb, ltb}
+use borrow.Author.Tests.{le-ltb, lt-ltb, ltb-false}
+use Rattle.plane.specs.declared.rect.Rect64.{Rect64}
+use Rattle.plane.specs.Basics.{Try, refuse, ok, _>>=_}
+use Rattle.plane.specs.Points.{points-of, coordinates-of}
+use Rattle.reference.specs.Entry.{is-present, filled, Outcome, refused, drawn, Lent, After, Drawing, joined, delivered, answered, clip-open, early-refusal}
+use Rattle.reference.specs.Lines.{execute-lines}
+use Rattle.reference.specs.Walk.{no-room}
+use Rattle.rectclip.specs.declared.answer.Presence.{Presence}
+use Rattle.rectclip.specs.declared.answer.Refusal.{Refusal}
+use Rattle.rectclip.specs.declared.answer.Refusal.the-variants.{OddCoordinates, StoreTooLong, AllowanceTooLarge, WorkTooShort, PathTooLong, RectangleOutside, PathOutside, StoreFull, CrossingLost, TurnsSpent, ListsTooShort, UnreadableLine}
+use Rattle.rectclip.specs.declared.answer.Answer.{Answer}
+use Rattle.rectclip.specs.Answers.{presence, number, outcome}
+use Rattle.rectclip.specs.Promises.{lent, ClipsOpen}
+use Rattle.harness.specs.Values.{presence-value, Exported, counted-by, counted, uncounted-value, Counted, Hands}
+
+-- the value of `present`, where its answer is q
+pub present-value : (p q : Presence) (R R′ : Rect64) (path : List ℤ) → presence p ≡ is-present R path → R ≡ R′ → p ≡ q
+    → presence-value (presence q) ≡ presence-value (is-present R′ path)
+present-value p q R R′ path e n t = ap (λ x. presence-value (presence x)) (sym t) ∙ ap presence-value (e ∙ ap (λ r. is-present r path) n)
+
+-- a refusal's number is at most 12
+pub number-small : (r : Refusal) → number r ≤ 12
+number-small OddCoordinates = omega arith
+number-small StoreTooLong = omega arith
+number-small AllowanceTooLarge = omega arith
+number-small WorkTooShort = omega arith
+number-small PathTooLong = omega arith
+number-small RectangleOutside = omega arith
+number-small PathOutside = omega arith
+number-small StoreFull = omega arith
+number-small CrossingLost = omega arith
+number-small TurnsSpent = omega arith
+number-small ListsTooShort = omega arith
+number-small UnreadableLine = omega arith
+
+-- three numbers stored at the front fill it
+pub three-stored : (l : List ℕ) (a b c : ℕ) → 3 ≤ length l → set (set (set l 0 a) 1 b) 2 c ≡ filled (a ∷ b ∷ c ∷ []) l
+three-stored [] a b c h = absurd (omega arith)
+three-stored (x ∷ []) a b c h = absurd (omega arith)
+three-stored (x ∷ y ∷ []) a b c h = absurd (omega arith)
+three-stored (x ∷ y ∷ z ∷ l) a b c h = refl
+
+-- ---- a result with its counts
+module _ (before : Lent) {after : Lent} (counts : List ℕ) {counts′ : List ℕ} {v : ℕ} where
+  -- with room for the counts: the answer o, and lists that are the definition's
+  hands-by : (o : Outcome) (lists : Lent) → Counted o counts v counts′ → ltb (length counts) 3 ≡ false
+      → after .coordinates ≡ lists .coordinates → after .lengths ≡ lists .lengths → after .store ≡ lists .store → after .work ≡ lists .work
+      → Hands (counted-by before counts o lists) v after counts′
+  hands-by (refused n) lists k e c l s w = record { value = k .value; coordinates = c; lengths = l; store = s; work = w; counts = k .list }
+  hands-by (drawn p q t) lists k e c l s w = rw e (record { value = k .value; coordinates = c; lengths = l; store = s; work = w; counts = k .list })
+
+  pub hands-counted : (a : After) (r : Answer) → outcome r ≡ a .answer → Counted (outcome r) counts v counts′ → 3 ≤ length counts
+      → after .coordinates ≡ a .lists .coordinates → after .lengths ≡ a .lists .lengths → after .store ≡ a .lists .store → after .work ≡ a .lists .work
+      → Hands (counted before counts a) v after counts′
+  unfolding counted
+  hands-counted a r e k h c l s w = hands-by (a .answer) (a .lists) (rw e at k) (le-ltb _ _ h) c l s w
+
+nothing : {A : Type 0} (l : List A) → ltb 0 (length l) ≡ false → l ≡ []
+nothing [] e = refl
+nothing (x ∷ l) e = absurd (no (length l) e)
+  where
+    no : (n : ℕ) → ltb 0 (suc n) ≡ false → ⊥
+    no n e = omega (arith, ltb-false 0 (suc n) e)
+
+parts : (a b : Bool) → (a || b) ≡ false → (a ≡ false) × (b ≡ false)
+parts false b e = (refl, e)
+parts true b e = absurd (subst T e tt)
+
+-- ---- no room for the counts: the entry is lent no room for the result
+abbrev pub bare : Lent → Lent
+bare l = record { coordinates = []; lengths = []; store = l .store; work = l .work }
+
+-- what is left of a call with no room for a result: its value, and the two working lists; the other lists as they came
+pub record Uncounted (e : Exported) (l : Lent) (counts : List ℕ) (a : After) : Type 0 where
+  pub value : e .value ≡ uncounted-value (a .answer)
+  pub coordinates : e .lists .coordinates ≡ l .coordinates
+  pub lengths : e .lists .lengths ≡ l .lengths
+  pub store : e .lists .store ≡ a .lists .store
+  pub work : e .lists .work ≡ a .lists .work
+  pub numbers : e .counts ≡ counts
+  pub no-coordinates : a .lists .coordinates ≡ []
+  pub no-lengths : a .lists .lengths ≡ []
+
+module _ (l : Lent) (counts : List ℕ) (h : ltb (length counts) 3 ≡ true) where
+  -- a drawing that is handed out, or refused for want of room
+  uncounted-drawn : (d : Drawing) → Uncounted (counted l counts (delivered l d)) l counts (delivered (bare l) d)
+  unfolding counted delivered
+  uncounted-drawn d =
+      go (ltb (length (l .coordinates)) (length (coordinates-of (joined (d .0)))) || ltb (length (l .lengths)) (length (map length (d .0)))) refl
+      (ltb 0 (length (coordinates-of (joined (d .0)))) || ltb 0 (length (map length (d .0)))) refl
+    where
+      go : (s : Bool) → (ltb (length (l .coordinates)) (length (coordinates-of (joined (d .0)))) || ltb (length (l .lengths)) (length (map length (d .0)))) ≡ s
+          → (t : Bool) → (ltb 0 (length (coordinates-of (joined (d .0)))) || ltb 0 (length (map length (d .0)))) ≡ t
+          → Uncounted (counted l counts (delivered l d)) l counts (delivered (bare l) d)
+      go true e true f = rw (e, f) (record { value = refl; coordinates = refl; lengths = refl; store = refl; work = refl; numbers = refl; no-coordinates = refl; no-lengths = refl })
+      go true e false f =
+          let p = parts (ltb 0 (length (coordinates-of (joined (d .0))))) (ltb 0 (length (map length (d .0)))) f in
+          rw (e, f) (record { value = refl; coordinates = refl; lengths = refl; store = refl; work = refl; numbers = refl; no-coordinates = ap (λ c. filled c []) (nothing (coordinates-of (joined (d .0))) (p .0)); no-lengths = ap (λ c. filled c []) (nothing (map length (d .0)) (p .1)) })
+      go false e true f = rw (e, f, h) (record { value = refl; coordinates = refl; lengths = refl; store = refl; work = refl; numbers = refl; no-coordinates = refl; no-lengths = refl })
+      go false e false f =
+          let p = parts (ltb 0 (length (coordinates-of (joined (d .0))))) (ltb 0 (length (map length (d .0)))) f in
+          rw (e, f, h) (record { value = refl; coordinates = refl; lengths = refl; store = refl; work = refl; numbers = refl; no-coordinates = ap (λ c. filled c []) (nothing (coordinates-of (joined (d .0))) (p .0)); no-lengths = ap (λ c. filled c []) (nothing (map length (d .0)) (p .1)) })
+
+  pub uncounted-is : (early : ℕ) (drawing : Try Drawing) → Uncounted (counted l counts (answered l early drawing)) l counts (answered (bare l) early drawing)
+  unfolding counted answered
+  uncounted-is early drawing = go (eqb early 0) refl drawing
+    where
+      go : (b : Bool) → eqb early 0 ≡ b → (drawing : Try Drawing) → Uncounted (counted l counts (answered l early drawing)) l counts (answered (bare l) early drawing)
+      go true e (refuse n) = rw e (record { value = refl; coordinates = refl; lengths = refl; store = refl; work = refl; numbers = refl; no-coordinates = refl; no-lengths = refl })
+      go true e (ok d) = rw e (uncounted-drawn d)
+      go false e drawing = rw e (record { value = refl; coordinates = refl; lengths = refl; store = refl; work = refl; numbers = refl; no-coordinates = refl; no-lengths = refl })
+
+-- ---- the line clipper's entry
+module _ (R R′ : Rect64) (path : List ℤ) (l : Lent) (counts : List ℕ) (e : R ≡ R′) where
+  pub lines-handed : {after : Lent} {r : Answer} {v : ℕ} {counts′ : List ℕ} → ClipsOpen R path l r after → Counted (outcome r) counts v counts′ → 3 ≤ length counts
+      → Hands (counted l counts (clip-open R′ path l)) v after counts′
+  lines-handed {after} {r} {v} {counts′} k n h =
+      subst (λ q. Hands (counted l counts (clip-open q path l)) v after counts′) e
+      (hands-counted l counts (clip-open R path l) r (k .answer) n h (k .coordinates) (k .lengths) (k .store) (k .work))
+
+  pub lines-uncounted : {after : Lent} {r : Answer} {v : ℕ} → ClipsOpen R path (bare l) r after → v ≡ uncounted-value (outcome r) → length counts < 3
+      → Hands (counted l counts (clip-open R′ path l)) v (lent (after .coordinates ++ l .coordinates) (after .lengths ++ l .lengths) (after .store) (after .work)) counts
+  unfolding clip-open
+  lines-uncounted {after} {r} {v} k n h =
+      let u = uncounted-is l counts (lt-ltb _ _ h) (early-refusal (length (l .store) / 2) 0 (length (l .work)) R path) (execute-lines (no-room (length (l .store) / 2)) R (points-of path) >>= λ paths. ok (paths, 0)) in
+      subst (λ q. Hands (counted l counts (clip-open q path l)) v (lent (after .coordinates ++ l .coordinates) (after .lengths ++ l .lengths) (after .store) (after .work)) counts) e
+      (record {
+        value = n ∙ ap uncounted-value (k .answer) ∙ sym (u .value);
+        coordinates = ap (λ c. c ++ l .coordinates) (k .coordinates ∙ u .no-coordinates) ∙ sym (u .coordinates);
+        lengths = ap (λ c. c ++ l .lengths) (k .lengths ∙ u .no-lengths) ∙ sym (u .lengths);
+        store = k .store ∙ sym (u .store);
+        work = k .work ∙ sym (u .work);
+        counts = sym (u .numbers);
+      })

@@ -1,0 +1,2 @@
+-- The exported functions' values.
+pub mod Values
