@@ -12,6 +12,7 @@ mod exported {
             coordinates: *mut i64, coordinates_len: usize, lengths: *mut u32, lengths_len: usize,
             counts: *mut u32, counts_len: usize,
         ) -> u32;
+        #[cfg(feature = "closed")]
         pub fn harness_rect_clip64(
             left: i64, top: i64, right: i64, bottom: i64,
             path: *const i64, path_len: usize, allowance: u32,
@@ -22,6 +23,9 @@ mod exported {
         pub fn harness_present(left: i64, top: i64, right: i64, bottom: i64, path: *const i64, path_len: usize) -> u32;
     }
 }
+
+/// The clippers that the library exports.
+pub const KINDS: &[Kind] = if cfg!(feature = "closed") { &[Kind::Closed, Kind::Open] } else { &[Kind::Open] };
 
 /// The lists that a call is lent.
 #[derive(Clone, Debug, PartialEq, Eq)]
@@ -58,6 +62,9 @@ pub fn clip(kind: Kind, rect: Rect, path: &[i64], allowance: u32, lists: &mut Li
                 coordinates.as_mut_ptr(), coordinates.len(), lengths.as_mut_ptr(), lengths.len(),
                 counts.as_mut_ptr(), counts.len(),
             ),
+            #[cfg(not(feature = "closed"))]
+            Kind::Closed => panic!("the library has no polygon clipper; allowance {allowance}"),
+            #[cfg(feature = "closed")]
             Kind::Closed => exported::harness_rect_clip64(
                 left, top, right, bottom, path.as_ptr(), path.len(), allowance,
                 store.as_mut_ptr(), store.len(), work.as_mut_ptr(), work.len(),

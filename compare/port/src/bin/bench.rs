@@ -9,7 +9,7 @@ use compare::judge::{self, path_of, rect_of, Kind, Rect};
 use compare::lists::least;
 use compare::random::Random;
 use compare::rectclip::{RectClip64, RectClipLines64};
-use port::{clip, Lists};
+use port::{clip, Lists, KINDS};
 use std::hint::black_box;
 use std::time::{Duration, Instant};
 
@@ -20,7 +20,7 @@ fn main() {
     let milliseconds = std::env::args().nth(1).map_or(60, |word| word.parse().expect("bench [MILLISECONDS]"));
     let time = Duration::from_millis(milliseconds);
     println!("{:8} {:12} {:>6} {:>12} {:>12} {:>7}", "clipper", "drawing", "points", "port ns", "Rust ns", "ratio");
-    for kind in [Kind::Closed, Kind::Open] {
+    for &kind in KINDS {
         for (name, make) in DRAWINGS {
             for size in SIZES {
                 let path = make(size);

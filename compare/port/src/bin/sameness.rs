@@ -10,7 +10,7 @@ use compare::drawings::random_drawing;
 use compare::judge::{self, clip as judged, Answer, Kind, Lent, Rect};
 use compare::lists::around;
 use compare::random::Random;
-use port::{clip, present, Lists};
+use port::{clip, present, Lists, KINDS};
 use std::env;
 
 const USAGE: &str = "usage: sameness COUNT SEED [POINTS], or sameness --grid";
@@ -40,6 +40,7 @@ fn random(count: u64, seed: u64, points: usize) -> u64 {
             eprintln!("{} of {count} drawings", done + 1);
         }
         let mut drawing = random_drawing(&mut random, points);
+        drawing.kind = random.pick(KINDS);
         if random.one_in(50) {
             damage(&mut drawing.path, &mut random);
         }
@@ -68,8 +69,9 @@ fn grid() -> u64 {
             calls += try_all(Kind::Open, [0, 0, 2, 2], &[a[0], a[1], b[0], b[1]], &mut random);
             for c in &points {
                 let path = [a[0], a[1], b[0], b[1], c[0], c[1]];
-                calls += try_all(Kind::Open, [0, 0, 2, 2], &path, &mut random);
-                calls += try_all(Kind::Closed, [0, 0, 2, 2], &path, &mut random);
+                for &kind in KINDS {
+                    calls += try_all(kind, [0, 0, 2, 2], &path, &mut random);
+                }
             }
         }
     }
