@@ -61,3 +61,4 @@ pub mod Later
 pub mod EdgeLists
 pub mod Turns
 pub mod Executing
+pub mod Filling

@@ -9,7 +9,7 @@ use Rattle.plane.specs.Basics.{none, push}
 use Rattle.reference.specs.Arena.{Arena, prev-of, owner-of, set-next, set-prev, set-result, set-results, set-new-owner}
 use Rattle.reference.specs.Tidy.{cw-is-toward-larger, four-of, relink}
 use Rattle.rectclip.specs.declared.arena.Sizes.{Sizes}
-use Rattle.rectclip.specs.declared.tidy.Four.{Four}
+use Rattle.rectclip.specs.declared.regroup.Four.{Four}
 use Rattle.rectclip.specs.Arenas.{arena-at, Holds, Leaves, Grows, Becomes, one-result-more}
 use Rattle.rectclip.specs.Turns.{four, FourIn, Fourth, joined, split, set-roots}
 use Rattle.rectclip.proofs.Unlinking.{renamed, then-leaves}

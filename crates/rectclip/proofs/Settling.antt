@@ -12,7 +12,7 @@ use Rattle.reference.specs.Arena.{Arena, set-entry, add-to-edge, uncouple-edge}
 use Rattle.reference.specs.Tidy.{cw-is-toward-larger, is-larger, is-spent, keep-one, keep-both, keep-each, settle, turn}
 use Rattle.reference.specs.Tidy as reference
 use Rattle.rectclip.specs.declared.arena.Sizes.{Sizes}
-use Rattle.rectclip.specs.declared.tidy.Turn.{Turn}
+use Rattle.rectclip.specs.declared.settle.Turn.{Turn}
 use Rattle.rectclip.specs.Arenas.{arena-at, Holds, Leaves, Becomes, Enters, Space}
 use Rattle.rectclip.specs.Turns.{Looking, Entries, put-entry, Settling, Turned, Settled, Moves}
 use Rattle.rectclip.proofs.Unlinking.{renamed, then-leaves}

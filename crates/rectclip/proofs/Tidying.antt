@@ -14,7 +14,7 @@ use Rattle.reference.specs.Arena.{Arena, edge-list}
 use Rattle.reference.specs.Tidy.{one-turn, turn, turns-from, tidy-edges}
 use Rattle.reference.specs.Tidy as reference
 use Rattle.rectclip.specs.declared.arena.Sizes.{Sizes}
-use Rattle.rectclip.specs.declared.tidy.Turn.{Turn}
+use Rattle.rectclip.specs.declared.settle.Turn.{Turn}
 use Rattle.rectclip.specs.declared.tidy.Tidied.{Tidied}
 use Rattle.rectclip.specs.Arenas.{arena-at, Holds, Becomes, Space, Spare}
 use Rattle.rectclip.specs.Stored.{points-in, Drawn}

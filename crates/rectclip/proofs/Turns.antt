@@ -14,8 +14,8 @@ use Rattle.reference.specs.Arena.{Arena, owner-of, edge-list, set-entry}
 use Rattle.reference.specs.Tidy.{is-stub, seek, is-horz, cw-is-toward-larger, four-of, overlap, relink, regroup, settle, rejoin, one-turn, turn}
 use Rattle.reference.specs.Tidy as reference
 use Rattle.rectclip.specs.declared.arena.Sizes.{Sizes}
-use Rattle.rectclip.specs.declared.tidy.Four.{Four}
-use Rattle.rectclip.specs.declared.tidy.Turn.{Turn}
+use Rattle.rectclip.specs.declared.regroup.Four.{Four}
+use Rattle.rectclip.specs.declared.settle.Turn.{Turn}
 use Rattle.rectclip.specs.Arenas.{arena-at, Holds, Leaves, Becomes, Space, Spare}
 use Rattle.rectclip.specs.Stored.{points-in, Drawn}
 use Rattle.rectclip.specs.Turns.{Sought, four, FourIn, Fourth, joined, split, regrouped, set-roots, Settling, Turned, Settled, Whole, Groups, Rejoining, Turning}

@@ -26,7 +26,7 @@ sets-append : {A : Type 0} (c : List A) (k : ℕ) (xs ys : List A) → sets c k 
 sets-append c k [] ys = ap (λ (i : ℕ). sets c i ys) (omega arith)
 sets-append c k (x ∷ xs) ys = sets-append (set c k x) (suc k) xs ys ∙ ap (λ (i : ℕ). sets (sets (set c k x) (suc k) xs) i ys) (omega arith)
 
-map-join : {A B : Type 0} (f : A → B) (xs ys : List A) → map f (xs ++ ys) ≡ map f xs ++ map f ys
+pub map-join : {A B : Type 0} (f : A → B) (xs ys : List A) → map f (xs ++ ys) ≡ map f xs ++ map f ys
 map-join f [] ys = refl
 map-join f (x ∷ xs) ys = ap (λ l. f x ∷ l) (map-join f xs ys)
 
@@ -35,7 +35,7 @@ unfolding coordinates-at
 coordinates-join pts [] ys = refl
 coordinates-join pts (x ∷ xs) ys = ap (λ (l : List ℤ). pt-of pts x .x ∷ pt-of pts x .y ∷ l) (coordinates-join pts xs ys)
 
-coordinates-length : (pts : List Point64) (xs : List ℕ) → length (coordinates-at pts xs) ≡ 2 * length xs
+pub coordinates-length : (pts : List Point64) (xs : List ℕ) → length (coordinates-at pts xs) ≡ 2 * length xs
 unfolding coordinates-at
 coordinates-length pts [] = refl
 coordinates-length pts (x ∷ xs) = omega (arith, coordinates-length pts xs)

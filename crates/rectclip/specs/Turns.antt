@@ -12,8 +12,8 @@ use Rattle.reference.specs.Arena.{Arena, owner-of, edge-list, set-entry, set-re
 use Rattle.reference.specs.Tidy.{is-stub, seek, tidy-edges}
 use Rattle.reference.specs.Tidy as reference
 use Rattle.rectclip.specs.declared.arena.Sizes.{Sizes}
-use Rattle.rectclip.specs.declared.tidy.Four.{Four}
-use Rattle.rectclip.specs.declared.tidy.Turn.{Turn}
+use Rattle.rectclip.specs.declared.regroup.Four.{Four}
+use Rattle.rectclip.specs.declared.settle.Turn.{Turn}
 use Rattle.rectclip.specs.declared.tidy.Tidied.{Tidied}
 use Rattle.rectclip.specs.Arenas.{arena-at, Holds, Becomes, Space, Spare}
 use Rattle.rectclip.specs.Stored.{points-in, Drawn}
