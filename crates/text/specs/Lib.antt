@@ -2,4 +2,5 @@
 pub mod Decimal
 pub mod Reading
 pub mod Printing
+pub mod Scanning
 pub mod Examples

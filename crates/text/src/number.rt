@@ -1,0 +1,1 @@
+// A number of a line.
