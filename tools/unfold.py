@@ -7,7 +7,7 @@ import re
 import sys
 
 IEEE = 'ofInt sub mul div neg toSigned eq le'.split()
-SKIP = {'Lib', 'Found', 'Drawings', 'Refusals', 'Examples'}
+SKIP = {'Lib', 'Found', 'Drawings', 'Refusals', 'Examples', 'Exported'}
 
 
 def lists(crate):

@@ -5,7 +5,7 @@ ghost use Rattle.plane.specs.Limit.{in-limit, rect-in-limit};
 ghost use Rattle.plane.specs.Points.{coordinates-of};
 ghost use Rattle.plane.specs.Basics.{if_then_else_};
 ghost use Rattle.integers.specs.Tests.{eqZ};
-ghost use Prim.Native.Nat.{ℕ, _≤_};
+ghost use Prim.Native.Nat.{_≤_};
 ghost use lib.IntN.{pos, _+ℤ_};
 ghost use lib.Signed.{quotZ};
 use crate::location::Location;

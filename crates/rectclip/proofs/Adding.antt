@@ -17,6 +17,8 @@ use Rattle.plane.specs.declared.location.Location.{Location}
 use Rattle.plane.specs.Basics.{is-nil, push, Try, refuse, ok}
 use Rattle.plane.specs.Points.{origin, same-point, pt-at, points-of}
 use Rattle.reference.specs.Walk.{Walk, no-room, add}
+use Rattle.rectclip.specs.declared.answer.Refusal.{Refusal}
+use Rattle.rectclip.specs.declared.answer.Refusal.the-variants.{StoreFull}
 use Rattle.rectclip.specs.declared.walk.WalkState.{WalkState}
 use Rattle.rectclip.specs.declared.walk.Step.{Step}
 use Rattle.rectclip.specs.declared.walk.Step.the-variants.{Walked, Refused}
@@ -112,6 +114,7 @@ module _ {store : List ℤ} {work : List ℕ} {s : WalkState} (F : Fits store wo
           starts = omega (arith, F .starts);
           start-locs = rw e (F .start-locs);
           begun = λ i hi. let z = F .begun i hi in omega arith;
+          rising = F .rising;
           near = close-behind;
         }
 
@@ -140,6 +143,13 @@ module _ {store : List ℤ} {work : List ℕ} {s : WalkState} (F : Fits store wo
                 | yes q ↦ rw (q, at-put 4 work (s .starts) (s .points) inside) (omega arith)
                 | no q ↦ rw (at-put-slot 4 work (s .starts) i (s .points) q) (let z = F .begun i (omega arith) in omega arith)
               ];
+          rising = λ i hi.
+              let old : at 4 (put 4 work (s .starts) (s .points)) i ≡ at 4 work i = at-put-slot 4 work (s .starts) i (s .points) (λ q. omega arith) in
+              rw old
+              (elim (ℕ-discrete (i + 1) (s .starts)) [
+                | yes q ↦ rw (q, at-put 4 work (s .starts) (s .points) inside) (let z = F .begun i (omega arith) in omega arith)
+                | no q ↦ rw (at-put-slot 4 work (s .starts) (i + 1) (s .points) q) (F .rising i (omega arith))
+              ]);
           near = close-behind;
         }
 
@@ -159,7 +169,7 @@ module _ {store : List ℤ} {work : List ℕ} {s : WalkState} {pt : Point64} (A 
   abbrev count : length (walk-of store work s .points) ≡ s .points
   count = walk-length (A .fits)
 
-  pub new-refused : length store / 2 ≤ s .points → Stepped (goal true) store work (Refused 8)
+  pub new-refused : length store / 2 ≤ s .points → Stepped (goal true) store work (Refused StoreFull)
   new-refused h = step-refused (sym (add-new-full _ (walk-of store work s) pt (s .points) count (le-leb _ _ h)))
 
   pub new-walked : s .points < length store / 2 → {store′ : List ℤ} {work′ : List ℕ} → store′ ≡ put-point store (s .points) pt → work′ ≡ put 4 work (s .starts) (s .points)
@@ -179,7 +189,7 @@ module _ {store : List ℤ} {work : List ℕ} {s : WalkState} {pt : Point64} (A 
     pub same-skipped : same-point last pt ≡ true → Stepped (goal false) store work (Walked s)
     same-skipped e = step-walked (sym (add-same _ (walk-of store work s) pt (s .points) count h (rw (last-is h, ← el) e))) (A .fits)
 
-    pub other-refused : same-point last pt ≡ false → length store / 2 ≤ s .points → Stepped (goal false) store work (Refused 8)
+    pub other-refused : same-point last pt ≡ false → length store / 2 ≤ s .points → Stepped (goal false) store work (Refused StoreFull)
     other-refused e f = step-refused (sym (add-full _ (walk-of store work s) pt (s .points) count h (rw (last-is h, ← el) e) (le-leb _ _ f)))
 
     pub other-walked : same-point last pt ≡ false → s .points < length store / 2 → {store′ : List ℤ} → store′ ≡ put-point store (s .points) pt

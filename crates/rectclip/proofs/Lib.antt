@@ -1,10 +1,10 @@
 -- Laws that the functions' proofs cite.
-pub mod Reach
-pub mod Segments
 pub mod Memory
 pub mod Columns
 pub mod Coordinates
 pub mod Clearing
+pub mod Reach
+pub mod Segments
 pub mod Limits
 pub mod Walking
 pub mod Adding
@@ -14,3 +14,10 @@ pub mod Moving
 pub mod Searches
 pub mod PathBounds
 pub mod Sheets
+pub mod Scans
+pub mod ScanSteps
+pub mod ScanPasses
+pub mod Polygons
+pub mod Passing
+pub mod Crossing
+pub mod Opening

@@ -14,7 +14,9 @@ use Rattle.plane.specs.declared.location.Location.the-variants.{Left, Top, Righ
 use Rattle.plane.specs.Limit.{in-limit, all-in-limit, rect-in-limit, Limited}
 use Rattle.plane.specs.Points.{pt-at, points-of}
 use Rattle.plane.specs.Rectangle.{corner}
-use Rattle.rectclip.specs.Bounds.{Reached}
+use Rattle.integers.specs.Tests.{T-of}
+use Rattle.theorems.proofs.Demand.{LimitedRect, rect-limited}
+use Rattle.rectclip.specs.Bounds.{Reached, SearchLimits}
 
 both : (a b : Bool) → (a && b) ≡ true → (a ≡ true) × (b ≡ true)
 both true b e = (refl, e)
@@ -29,22 +31,8 @@ path-limited (x ∷ []) e i = record { across = omega arith; down = omega arith 
 path-limited (x ∷ y ∷ path) e zero = let (a, b) = both (in-limit x) _ e in record { across = within x a; down = within y (both (in-limit y) _ b .0) }
 path-limited (x ∷ y ∷ path) e (suc i) = path-limited path (both (in-limit y) _ (both (in-limit x) _ e .1) .1) i
 
--- each coordinate of the rectangle
-pub record Framed (r : Rect64) : Type 0 where
-  pub left : natAbs (r .left) ≤ 33554432
-  pub top : natAbs (r .top) ≤ 33554432
-  pub right : natAbs (r .right) ≤ 33554432
-  pub bottom : natAbs (r .bottom) ≤ 33554432
-
-pub framed : (r : Rect64) → rect-in-limit r ≡ true → Framed r
-framed r e =
-    let (e3, d) = both (in-limit (r .left) && in-limit (r .top) && in-limit (r .right)) _ e in
-    let (e2, c) = both (in-limit (r .left) && in-limit (r .top)) _ e3 in
-    let (a, b) = both (in-limit (r .left)) _ e2 in
-    record { left = within (r .left) a; top = within (r .top) b; right = within (r .right) c; bottom = within (r .bottom) d }
-
-pub close-of : {p : Point64} → Limited p → Reached p
-close-of L = record { across = omega (arith, L .across); down = omega (arith, L .down) }
+pub framed : (r : Rect64) → rect-in-limit r ≡ true → LimitedRect r
+framed r e = rect-limited r (T-of e)
 
 pub close-corner : (r : Rect64) (loc : Location) → rect-in-limit r ≡ true → Reached (corner r loc)
 close-corner r Left e = let F = framed r e in record { across = omega (arith, F .left); down = omega (arith, F .top) }
@@ -52,3 +40,7 @@ close-corner r Top e = let F = framed r e in record { across = omega (arith, F .
 close-corner r Right e = let F = framed r e in record { across = omega (arith, F .right); down = omega (arith, F .bottom) }
 close-corner r Bottom e = let F = framed r e in record { across = omega (arith, F .left); down = omega (arith, F .bottom) }
 close-corner r Inside e = let F = framed r e in record { across = omega (arith, F .left); down = omega (arith, F .top) }
+
+-- what a search asks, of two points of the path
+pub searches : {r : Rect64} {p p2 : Point64} → rect-in-limit r ≡ true → Limited p → Limited p2 → SearchLimits r p p2
+searches {r} e a b = record { rect = framed r e; start = a; end = b }

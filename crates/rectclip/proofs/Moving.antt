@@ -14,6 +14,8 @@ use Rattle.plane.specs.Basics.{Try, refuse, ok}
 use Rattle.plane.specs.Locations.{is-inside}
 use Rattle.plane.specs.Points.{pt-at, points-of}
 use Rattle.reference.specs.Walk.{Walk, Next, no-room, add, next-outside, next-inside, get-next-location}
+use Rattle.rectclip.specs.declared.answer.Refusal.{Refusal}
+use Rattle.rectclip.specs.Answers.{number}
 use Rattle.rectclip.specs.declared.walk.WalkState.{WalkState}
 use Rattle.rectclip.specs.declared.walk.Step.{Step}
 use Rattle.rectclip.specs.declared.walk.Step.the-variants.{Walked, Refused}
@@ -35,13 +37,13 @@ module _ {goal : Try Next} {from : ℕ} {store : List ℤ} {work : List ℕ} whe
     forth = λ m q. let z : n ≡ m = cc in subst (λ (m : NextState). from ≤ m .i) z h;
   }
 
-  pub move-stopped : {k : ℕ} → refuse k ≡ goal → Moved goal from store work (Stopped k)
+  pub move-stopped : {k : Refusal} → refuse (number k) ≡ goal → Moved goal from store work (Stopped k)
   move-stopped e = record { answer = e; fits = λ m q. absurd (let z : _≡_ {A = ℕ} 0 1 = cc in omega arith); forth = λ m q. absurd (let z : _≡_ {A = ℕ} 0 1 = cc in omega arith) }
 
   pub moved-is : {n : NextState} {r : Move} → Moved goal from store work r → r ≡ To n → ok (next-of store work n) ≡ goal
   moved-is R e = rw e at (R .answer)
 
-  pub stopped-is : {k : ℕ} {r : Move} → Moved goal from store work r → r ≡ Stopped k → refuse k ≡ goal
+  pub stopped-is : {k : Refusal} {r : Move} → Moved goal from store work r → r ≡ Stopped k → refuse (number k) ≡ goal
   stopped-is R e = rw e at (R .answer)
 
 -- ---- from outside
@@ -89,8 +91,8 @@ module _ {rect : Rect64} {path store₀ : List ℤ} {work₀ : List ℕ} {w₀ :
         forth = omega (arith, I .forth);
       }
 
-      pub inside-lost : (n : ℕ) → r ≡ Refused n → Moved whole from store′ work′ (Stopped n)
-      inside-lost n e = move-stopped (inside-stop _ rect (points-of path) (walk-of store work w) i in-path n (rw side-is at (sym eb ∙ t)) (refused-is R e ∙ same-add) ∙ I .going .goal)
+      pub inside-lost : (n : Refusal) → r ≡ Refused n → Moved whole from store′ work′ (Stopped n)
+      inside-lost n e = move-stopped (inside-stop _ rect (points-of path) (walk-of store work w) i in-path (number n) (rw side-is at (sym eb ∙ t)) (refused-is R e ∙ same-add) ∙ I .going .goal)
 
   pub inside-ends : length path / 2 ≤ i → Moved whole from store work (To (record { walk = w; loc = Inside; i = i }))
   inside-ends h = move-to (inside-end _ rect (points-of path) (walk-of store work w) i (rw (points-length path) h) ∙ I .going .goal) (I .going .fits) (I .forth)

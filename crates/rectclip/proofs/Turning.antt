@@ -17,6 +17,9 @@ use Rattle.plane.specs.Basics.{Try, refuse, ok, _>>=_, push}
 use Rattle.plane.specs.Locations.{side-number, same-location, get-adjacent-location}
 use Rattle.plane.specs.Points.{origin, pt-at, points-of}
 use Rattle.reference.specs.Walk.{Walk, no-room, add, add-all, push-start-loc, push-start-locs, add-corner-loc, add-corners}
+use Rattle.rectclip.specs.declared.answer.Refusal.{Refusal}
+use Rattle.rectclip.specs.declared.answer.Refusal.the-variants.{StoreFull}
+use Rattle.rectclip.specs.Answers.{number}
 use Rattle.rectclip.specs.declared.walk.WalkState.{WalkState}
 use Rattle.rectclip.specs.declared.walk.Step.{Step}
 use Rattle.rectclip.specs.declared.walk.Step.the-variants.{Walked, Refused}
@@ -66,8 +69,8 @@ module _ {path store₀ : List ℤ} {work₀ : List ℕ} {w₀ : WalkState} {sto
       here = omega arith;
     }
 
-    pub all-lost : (n : ℕ) → r ≡ Refused n → Stepped (add-all (no-room (length store₀ / 2)) (walk-of store₀ work₀ w₀) (points-of path)) store′ work′ r
-    all-lost n e = rw e (step-refused (all-stop _ (walk-of store work w) (walk-of store work w) n i (points-of path) in-path (refused-is R e ∙ same) ∙ I .going .goal))
+    pub all-lost : (n : Refusal) → r ≡ Refused n → Stepped (add-all (no-room (length store₀ / 2)) (walk-of store₀ work₀ w₀) (points-of path)) store′ work′ r
+    all-lost n e = rw e (step-refused (all-stop _ (walk-of store work w) (walk-of store work w) (number n) i (points-of path) in-path (refused-is R e ∙ same) ∙ I .going .goal))
 
   pub all-done : length path / 2 ≤ i → Stepped (add-all (no-room (length store₀ / 2)) (walk-of store₀ work₀ w₀) (points-of path)) store work (Walked w)
   all-done h = step-walked (all-end _ (walk-of store work w) (points-of path) i (rw (points-length path) (omega (arith, I .here))) ∙ I .going .goal) (I .going .fits)
@@ -114,8 +117,8 @@ module _ {loc : Location} {cw : Bool} {step : ℕ → Walk → Location → Try 
     now-left : run (length store₀) (suc (left - 1)) (walk-of store work w) p ≡ run (length store₀) 4 (walk-of store₀ work₀ w₀) p₀
     now-left = let e : suc (left - 1) ≡ left = omega arith in rw e (I .going .goal)
 
-    pub round-lost : (n : ℕ) → r ≡ Refused n → Stepped (run (length store₀) 4 (walk-of store₀ work₀ w₀) p₀) store′ work′ r
-    round-lost n e = rw e (step-refused (D .stop (length store₀) (left - 1) (walk-of store work w) p n (refused-is R e ∙ same-step) ∙ now-left))
+    pub round-lost : (n : Refusal) → r ≡ Refused n → Stepped (run (length store₀) 4 (walk-of store₀ work₀ w₀) p₀) store′ work′ r
+    round-lost n e = rw e (step-refused (D .stop (length store₀) (left - 1) (walk-of store work w) p (number n) (refused-is R e ∙ same-step) ∙ now-left))
 
     module _ (v : WalkState) (e : r ≡ Walked v) {q : Location} (eq : q ≡ get-adjacent-location p cw) {b : Bool} (eb : b ≡ same-location q loc) where
       pub round-met : b ≡ true → Stepped (run (length store₀) 4 (walk-of store₀ work₀ w₀) p₀) store′ work′ (Walked v)
@@ -161,7 +164,7 @@ module _ {store : List ℤ} {work : List ℕ} {s : WalkState} (loc : Location) (
   unfolding walk-of
   sides = length-map (column 5 (s .«start_locs») work) location ∙ column-length 5 (s .«start_locs») work
 
-  pub side-refused : length store / 2 ≤ s .«start_locs» → Stepped (push-start-loc (no-room (length store / 2)) (walk-of store work s) loc) store work (Refused 8)
+  pub side-refused : length store / 2 ≤ s .«start_locs» → Stepped (push-start-loc (no-room (length store / 2)) (walk-of store work s) loc) store work (Refused StoreFull)
   unfolding push-start-loc
   side-refused h = step-refused (rw (sides, le-leb (length store / 2) (s .«start_locs») h) refl)
 
@@ -177,6 +180,12 @@ module _ {store : List ℤ} {work : List ℕ} {s : WalkState} (loc : Location) (
       starts = F .starts;
       start-locs = omega arith;
       begun = λ i hi. rw (at-put-field 5 4 work (s .«start_locs») i (side-number loc) (omega arith) (omega arith) (λ q. omega arith)) (F .begun i hi);
+      rising = λ i hi.
+          rw (
+            at-put-field 5 4 work (s .«start_locs») i (side-number loc) (omega arith) (omega arith) (λ q. omega arith),
+            at-put-field 5 4 work (s .«start_locs») (i + 1) (side-number loc) (omega arith) (omega arith) (λ q. omega arith),
+          )
+          (F .rising i hi);
       near = F .near;
     }
 

@@ -7,6 +7,8 @@ use lib.IntN.{ℤ}
 use lib.ListN.{length}
 use Rattle.plane.specs.Basics.{Try, refuse, ok, _>>=_}
 use Rattle.reference.specs.Walk.{Walk, Next}
+use Rattle.rectclip.specs.declared.answer.Refusal.{Refusal}
+use Rattle.rectclip.specs.Answers.{number}
 use Rattle.rectclip.specs.declared.walk.WalkState.{WalkState}
 use Rattle.rectclip.specs.declared.walk.Step.{Step}
 use Rattle.rectclip.specs.declared.walk.Step.the-variants.{Walked, Refused}
@@ -23,14 +25,14 @@ module _ {goal : Try Walk} {store : List ℤ} {work : List ℕ} where
   pub step-walked : {s : WalkState} → ok (walk-of store work s) ≡ goal → Fits store work s → Stepped goal store work (Walked s)
   step-walked {s} e F = record { answer = e; fits = λ t q. let z : s ≡ t = cc in subst (λ (t : WalkState). Fits store work t) z F }
 
-  pub step-refused : {n : ℕ} → refuse n ≡ goal → Stepped goal store work (Refused n)
+  pub step-refused : {n : Refusal} → refuse (number n) ≡ goal → Stepped goal store work (Refused n)
   step-refused e = record { answer = e; fits = λ t q. absurd (let z : _≡_ {A = ℕ} 0 1 = cc in omega arith) }
 
   -- the walk of a step that went on, and the number of one that was refused
   pub walked-is : {s : WalkState} {r : Step} → Stepped goal store work r → r ≡ Walked s → ok (walk-of store work s) ≡ goal
   walked-is R e = rw e at (R .answer)
 
-  pub refused-is : {n : ℕ} {r : Step} → Stepped goal store work r → r ≡ Refused n → refuse n ≡ goal
+  pub refused-is : {n : Refusal} {r : Step} → Stepped goal store work r → r ≡ Refused n → refuse (number n) ≡ goal
   refused-is R e = rw e at (R .answer)
 
 -- ---- a loop of steps: what is left to do now comes to what there was to do at first, and the walk fits

@@ -1,9 +1,9 @@
 -- What the functions ask of their points and lists: coordinates within the limit, or one unit past it, as a crossing's may be.
 use mathlib.Core.List.{List}
-use Prim.Native.Nat.{_%_, _≤_}
+use Prim.Native.Nat.{ℕ, _%_, _/_, _≤_, _<_}
 use lib.ListN.{length}
 use lib.IntN.{ℤ, natAbs}
-use Rattle.plane.specs.Points.{points-of}
+use Rattle.plane.specs.Points.{points-of, pt-at}
 use mathlib.Core.Path.{_≡_}
 use mathlib.Core.Bool.{false}
 use Rattle.plane.specs.Limit.{Limited}
@@ -42,3 +42,14 @@ pub record InReach (r : Rect64) (s : Search) : Type 0 where
 pub record Surveyed (coords : List ℤ) (bounds : Rect64) : Type 0 where
   pub even : length coords % 2 ≡ 0
   pub bound : bounds ≡ get-bounds-path (points-of coords)
+
+-- a polygon's coordinates, and the point that it is asked about, are within reach
+pub record Vertices (pt : Point64) (coords : List ℤ) : Type 0 where
+  pub even : length coords % 2 ≡ 0
+  pub asked : Reached pt
+  pub vertex : (i : ℕ) → i < length coords / 2 → Reached (pt-at (points-of coords) i)
+
+-- each point of the second path may be asked about the first
+pub record BothPaths (path1 path2 : List ℤ) : Type 0 where
+  pub even : length path2 % 2 ≡ 0
+  pub asked : (i : ℕ) → i < length path2 / 2 → Vertices (pt-at (points-of path2) i) path1

@@ -4,4 +4,6 @@ pub mod Bounds
 pub mod Parted
 pub mod Walking
 pub mod Moving
+pub mod Scanned
 pub mod Answers
+pub mod Crossing

@@ -19,6 +19,7 @@ use Rattle.rectclip.specs.declared.next.ScanEnd.{ScanEnd}
 use Rattle.rectclip.specs.declared.next.NextState.{NextState}
 use Rattle.rectclip.specs.declared.next.Move.{Move}
 use Rattle.rectclip.specs.declared.next.Move.the-variants.{To, Stopped}
+use Rattle.rectclip.specs.Answers.{number}
 use Rattle.rectclip.specs.Walking.{walk-of, Fits, Sheet}
 
 -- ---- the line of a side: a bound on x, at offset 0, or y, at offset 1
@@ -53,7 +54,7 @@ next-of store work n = record { walk = walk-of store work (n .walk); loc = n .lo
 
 abbrev pub moved : Move → List ℤ → List ℕ → Try Next
 moved (To n) store work = ok (next-of store work n)
-moved (Stopped k) store work = refuse k
+moved (Stopped why) store work = refuse (number why)
 
 -- what a move of the walk needs
 pub record Moves (rect : Rect64) (path store : List ℤ) (work : List ℕ) (s : WalkState) : Type 0 where

@@ -18,6 +18,7 @@ use Rattle.reference.specs.Walk.{Walk}
 use Rattle.rectclip.specs.declared.walk.WalkState.{WalkState}
 use Rattle.rectclip.specs.declared.walk.Step.{Step}
 use Rattle.rectclip.specs.declared.walk.Step.the-variants.{Walked, Refused}
+use Rattle.rectclip.specs.Answers.{number}
 use Rattle.rectclip.specs.Bounds.{Reached}
 use Rattle.rectclip.specs.Memory.{at, Room, column}
 
@@ -40,7 +41,7 @@ walk-of store work s = record {
 -- what a step answers: the walk as the lists have it, or a refusal
 abbrev pub stepped : Step → List ℤ → List ℕ → Try Walk
 stepped (Walked s) store work = ok (walk-of store work s)
-stepped (Refused n) store work = refuse n
+stepped (Refused why) store work = refuse (number why)
 
 -- the walk has its place in the lists, with a slot for each of W points and one more
 pub record Fits (store : List ℤ) (work : List ℕ) (s : WalkState) : Type 0 where
@@ -50,6 +51,7 @@ pub record Fits (store : List ℤ) (work : List ℕ) (s : WalkState) : Type 0 wh
   pub starts : s .starts ≤ s .points
   pub start-locs : s .«start_locs» ≤ length store / 2
   pub begun : (i : ℕ) → i < s .starts → at 4 work i < s .points
+  pub rising : (i : ℕ) → i + 1 < s .starts → at 4 work i ≤ at 4 work (i + 1)
   pub near : (i : ℕ) → i < s .points → Reached (pt-at (points-of store) i)
 
 -- a rectangle that is not empty, and a path, within the coordinate limit

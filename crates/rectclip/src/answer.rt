@@ -37,7 +37,7 @@ pub enum Presence {
 }
 
 // Whether a check lets a call through.
-pub enum Check {
+pub(crate) enum Check {
     Passed,
     Refused(Refusal),
 }

@@ -2,8 +2,10 @@
 // The public entries are total; what needs a bound is private.
 pub mod answer;
 mod corners;
+mod line_walk;
 mod lists;
 mod next;
+mod polygon;
 pub mod present;
 mod search;
 mod segment;

@@ -10,6 +10,7 @@ ghost use Rattle.plane.specs.Points.{points-of};
 ghost use Rattle.reference.specs.Walk.{Walk, no-room, next-side, next-outside, next-inside, get-next-location};
 ghost use Rattle.rectclip.specs.Walking.{walk-of};
 ghost use Rattle.rectclip.specs.Moving.{past, past-line, exit-side, LineOf, scanned, Moves, Moved};
+use crate::answer::Refusal;
 use crate::lists::point_at;
 use crate::walk::Step;
 use crate::walk::WalkState;
@@ -38,10 +39,10 @@ pub(crate) struct NextState {
     pub i: usize,
 }
 
-// A move along the path: where the walk stands afterwards, or the number of a refusal.
+// A move along the path: where the walk stands afterwards, or a refusal.
 pub(crate) enum Move {
     To(NextState),
-    Stopped(u32),
+    Stopped(Refusal),
 }
 
 // The line of a side.

@@ -1,7 +1,7 @@
 // Signs of cross products, and the crossing of a segment and an edge in binary64: each operation rounds once, none fused.
 ghost use mathlib.Core.Path.{_≡_};
 ghost use Rattle.rounding.specs.Coordinate.{Limit, float};
-ghost use Rattle.plane.specs.Limit.{Limited, AllLimited};
+ghost use Rattle.plane.specs.Limit.{AllLimited};
 ghost use Rattle.plane.specs.Signs.{cross-product-sign, is-collinear, cross-product-is-negative, is-clockwise-dir};
 ghost use Rattle.plane.specs.Segment.{workingOf, crossingOf, pointAt, settledOf, intersection};
 ghost use Rattle.plane.specs.Found.{NearCrossing};

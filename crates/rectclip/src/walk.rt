@@ -7,6 +7,7 @@ ghost use lib.ListN.{length};
 ghost use Rattle.plane.specs.Points.{points-of};
 ghost use Rattle.reference.specs.Walk.{no-room, add, add-all, push-start-loc};
 ghost use Rattle.rectclip.specs.Walking.{walk-of, Fits, Adds, AddsAll, Stepped};
+use crate::answer::Refusal;
 use crate::lists::RESULT;
 use crate::lists::START_LOC;
 use crate::lists::point_at;
@@ -22,10 +23,10 @@ pub(crate) struct WalkState {
     pub start_locs: usize,
 }
 
-// A step of the walk: how it stands afterwards, or the number of a refusal.
+// A step of the walk: how it stands afterwards, or a refusal.
 pub(crate) enum Step {
     Walked(WalkState),
-    Refused(u32),
+    Refused(Refusal),
 }
 
 impl WalkState {
@@ -50,7 +51,7 @@ pub(crate) fn begin(store: &mut [i64], work: &mut [u32], s: WalkState, pt: Point
     let starts = s.starts;
     let start_locs = s.start_locs;
     if store.len() / 2 <= n {
-        return Step::Refused(8);
+        return Step::Refused(Refusal::StoreFull);
     }
     put_point(store, n, pt);
     store_field(work, RESULT, starts, n);
@@ -86,7 +87,7 @@ pub(crate) fn add(
         return Step::Walked(s);
     }
     if store.len() / 2 <= n {
-        return Step::Refused(8);
+        return Step::Refused(Refusal::StoreFull);
     }
     put_point(store, n, pt);
     Step::Walked(WalkState {
@@ -124,7 +125,7 @@ pub(crate) fn push_start_loc(store: &[i64], work: &mut [u32], s: WalkState, loc:
     let starts = s.starts;
     let n = s.start_locs;
     if store.len() / 2 <= n {
-        return Step::Refused(8);
+        return Step::Refused(Refusal::StoreFull);
     }
     store_field(work, START_LOC, n, loc.number() as usize);
     Step::Walked(WalkState {

@@ -6,5 +6,6 @@ pub mod Arena
 pub mod Tidy
 pub mod Clip
 pub mod Entry
+pub mod Exported
 pub mod Drawings
 pub mod Refusals

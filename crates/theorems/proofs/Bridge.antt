@@ -144,7 +144,7 @@ finds s p q a b l h = go (eq (determinant p q a b) zeroF) (le (fraction p q a b)
 
 -- ---- the search
 module _ (r : Rect64) (lr : LimitedRect r) (k : Proper r) (p q : Point64) (lp : Limited p) (lq : Limited q) where
-  abbrev hit : Side → Hit → Search
+  abbrev pub hit : Side → Hit → Search
   hit s none = Missed
   hit s (known e) = Found e (loc s)
   hit s proper = Found (floats p q (from r s) (to r s)) (loc s)
@@ -164,7 +164,7 @@ module _ (r : Rect64) (lr : LimitedRect r) (k : Proper r) (p q : Point64) (lp : 
   met-is s (known x) e = refl
   met-is s proper e = finds (loc s) p q (from r s) (to r s) (corners s) (det-non r k s p q e)
 
-  edge-is : (s : Side) → edge-intersection r (loc s) p q ≡ hit s (edge r s p q)
+  pub edge-is : (s : Side) → edge-intersection r (loc s) p q ≡ hit s (edge r s p q)
   unfolding edge-intersection
   edge-is onLeft = ap (λ (c : Crossing). met Left (settledOf c (workingOf p q (from r onLeft) (to r onLeft)))) (segment-is p q (from r onLeft) (to r onLeft)) ∙ met-is onLeft (edge r onLeft p q) refl
   edge-is onTop = ap (λ (c : Crossing). met Top (settledOf c (workingOf p q (from r onTop) (to r onTop)))) (segment-is p q (from r onTop) (to r onTop)) ∙ met-is onTop (edge r onTop p q) refl

@@ -1,8 +1,9 @@
 -- Tests and what they decide: signs of multiples, a number between two others, the two tests of `on`.
-use mathlib.Core.Path.{_≡_, refl, _∙_, ap}
+use mathlib.Core.Path.{_≡_, refl, sym, _∙_, ap, subst}
 use mathlib.Core.Bool.{Bool, true, false, cond, _||_}
 use mathlib.Core.List.{[], _∷_}
 use mathlib.Core.Logic.{_⊎_, inl, inr}
+use lib.Dec.{T}
 use lib.IntN.{ℤ, pos, negsuc, _+ℤ_, _-ℤ_, _*ℤ_, *ℤ-zero}
 use lib.Signed.{ltZ, _≤ℤ_, _<ℤ_}
 use Rattle.integers.specs.Order.{zint, sub-pn, eq→}
@@ -15,6 +16,14 @@ use Rattle.theorems.proofs.GeoPlane.{sign, zero?, up?, same}
 -- b is the answer to the question P
 abbrev pub Decides : Bool → Type 0 → Type 0
 Decides b P = ((b ≡ true) × P) ⊎ ((b ≡ false) × (P → ⊥))
+
+pub yes-of : {b : Bool} {P : Type 0} → Decides b P → b ≡ true → P
+yes-of (inl h) e = h .1
+yes-of (inr h) e = absurd (subst T (sym e ∙ h .0) tt)
+
+pub is-yes : {b : Bool} {P : Type 0} → Decides b P → P → b ≡ true
+is-yes (inl h) p = h .0
+is-yes (inr h) p = absurd (h .1 p)
 
 pub decided : {b c : Bool} {P Q : Type 0} → c ≡ b → (P → Q) → (Q → P) → Decides b P → Decides c Q
 decided e f g (inl h) = inl (e ∙ h .0, f (h .1))

@@ -70,4 +70,5 @@ pub mod FewPoints
 pub mod FewLines
 pub mod FewEntries
 pub mod ListsFit
+pub mod GeoExact
 pub mod Search

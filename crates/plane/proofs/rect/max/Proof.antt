@@ -1,5 +1,4 @@
 -- `max` meets its contract. Assumes nothing.
-use mathlib.Core.Path.{_≡_}
 use mir.Facts.{toZ-ofZ}
 use Rattle.integers.specs.Tests.{plain}
 use Rattle.plane.proofs.rect.max.Statement.{statement}

@@ -1,13 +1,13 @@
 -- `middle` meets its contract: a sum of numbers of different signs fits, and so does each sum of halves. Assumes nothing.
-use mathlib.Core.Path.{_≡_, sym, subst, ap, _∙_}
+use mathlib.Core.Path.{_≡_, sym, subst, _∙_}
 use native.Mathlib.Omega.{arith}
-use lib.IntN.{ℤ, pos, _+ℤ_, +ℤ-comm}
+use lib.IntN.{ℤ, _+ℤ_, +ℤ-comm}
 use mir.Syntax.{w64}
 use mir.Val.{SFits}
 use mir.Facts.{toZ-ofZ}
 use Rattle.integers.specs.Tests.{plain}
 use Rattle.integers.specs.Quot.{quot-fits}
-use Rattle.plane.proofs.Halves.{half, rest, by-halves, half-fits, rest-fits, halves-fit, rests-fit, half-sum-fits, mixed-fits, halved}
+use Rattle.plane.proofs.Halves.{half, by-halves, half-fits, rest-fits, halves-fit, rests-fit, half-sum-fits, mixed-fits, halved}
 use Rattle.plane.proofs.rect.middle.Statement.{statement}
 use Rattle.plane.proofs.rect.middle.Tie as tie
 

@@ -2,7 +2,8 @@
 use mathlib.Core.Path.{refl, sym, _∙_}
 use Prim.Native.Nat.{_-_}
 use borrow.Author.Tests.{not-true, not-false}
-use Rattle.rectclip.proofs.Limits.{path-limited, close-of}
+use Rattle.rectclip.proofs.Limits.{path-limited}
+use Rattle.rectclip.proofs.Reach.{reached}
 use Rattle.rectclip.proofs.Moving.{InsideGoing, inside-starts, inside-exits, inside-again, inside-lost, inside-ends}
 use borrow.Author.Needs.{needs}
 use Rattle.rectclip.proofs.next.next_inside.Statement.{statement}
@@ -42,7 +43,7 @@ returns : tie.Need-returns Inv-loop μ-loop
 returns c = inside-exits (c .before .before .before .before .before .loop .inv) (c .before .before .before .before .loop-test .taken) (c .before .before .before .point-at .ensures) (c .before .before .exit-side .ensures) (c .before .is-inside .ensures) (not-true _ (c .if1 .taken))
 
 add-requires : tie.Need-add-requires Inv-loop μ-loop
-add-requires c κs = let s : tie.Start Inv-loop μ-loop = search in record { fits = c .before .before .before .before .before .before .before .loop .inv .going .fits; close = rw (c .before .before .before .before .before .point-at .ensures) (close-of (path-limited (s .args .path .now) (s .pre .sheet .points) (c .before .before .before .before .before .before .before .loop .i))) }
+add-requires c κs = let s : tie.Start Inv-loop μ-loop = search in record { fits = c .before .before .before .before .before .before .before .loop .inv .going .fits; close = rw (c .before .before .before .before .before .point-at .ensures) (reached (path-limited (s .args .path .now) (s .pre .sheet .points) (c .before .before .before .before .before .before .before .loop .i))) }
 
 enum-known-v : tie.Need-enum-known-v Inv-loop μ-loop
 enum-known-v c = search needs

@@ -1,7 +1,6 @@
 -- `present` meets its contract. Assumes nothing.
-use mathlib.Core.Path.{_≡_, sym, ap, _∙_}
-use native.Mathlib.Omega.{arith}
-use Rattle.rectclip.specs.Answers.{check-number, number}
+use mathlib.Core.Path.{sym, ap, _∙_}
+use Rattle.rectclip.specs.Answers.{check-number}
 use Rattle.rectclip.proofs.Sheets.{present-odd, present-refused, present-meets, number-not-zero}
 use borrow.Author.Needs.{needs}
 use Rattle.rectclip.proofs.present.present.Statement.{statement}

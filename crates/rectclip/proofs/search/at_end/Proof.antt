@@ -1,5 +1,5 @@
 -- `at_end` meets its contract. Assumes nothing.
-use mathlib.Core.Path.{_≡_, sym, _∙_}
+use mathlib.Core.Path.{sym, _∙_}
 use mathlib.Core.Bool.{_||_}
 use mir.Syntax.{w64}
 use mir.Val.{SFits}

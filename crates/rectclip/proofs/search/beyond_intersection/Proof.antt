@@ -1,5 +1,5 @@
 -- `beyond_intersection` meets its contract. Assumes nothing.
-use mathlib.Core.Path.{_≡_, sym, _∙_}
+use mathlib.Core.Path.{sym, _∙_}
 use Rattle.rectclip.specs.Parted.{beyond-intersection}
 use borrow.Author.Needs.{needs}
 use Rattle.rectclip.proofs.search.beyond_intersection.Statement.{statement}

@@ -1,5 +1,5 @@
 -- `edge_ends` meets its contract. Assumes nothing.
-use mathlib.Core.Path.{_≡_, _∙_}
+use mathlib.Core.Path.{_∙_}
 use Rattle.rectclip.proofs.Segments.{zero-yes, zero-no, alike, edge-first, edge-second, edge-past, edge-between}
 use borrow.Author.Needs.{needs}
 use Rattle.rectclip.proofs.search.edge_ends.Statement.{statement}

@@ -1,5 +1,4 @@
 -- `edge_from` meets its contract, side by side. Assumes nothing.
-use mathlib.Core.Path.{_≡_, _∙_}
 use borrow.Author.Needs.{needs}
 use Rattle.rectclip.proofs.search.edge_from.Statement.{statement}
 use Rattle.rectclip.proofs.search.edge_from.Tie as tie

@@ -1,12 +1,10 @@
 -- `edge_intersection` meets its contract. Assumes nothing.
 use mathlib.Core.Path.{_≡_, sym, ap, _∙_}
-use Rattle.plane.specs.Intersection.{met, edge-intersection}
+use Rattle.plane.specs.Intersection.{met, edge-intersection, get-segment-intersection, edge-from, edge-to}
 use Rattle.plane.specs.Segment.{workingOf, settledOf}
 use Rattle.plane.specs.Points.{pt-at}
 use Rattle.plane.specs.Rectangle.{as-path}
-use Rattle.plane.specs.Intersection.{get-segment-intersection, edge-from, edge-to}
 use Rattle.plane.specs.declared.crossing.Crossing.{Crossing}
-use Rattle.plane.specs.declared.crossing.Search.{Search}
 use Rattle.plane.specs.declared.point.Point64.{Point64}
 use Rattle.plane.specs.declared.rect.Rect64.{Rect64}
 use Rattle.plane.specs.declared.location.Location.{Location}

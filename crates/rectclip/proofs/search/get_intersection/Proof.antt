@@ -1,9 +1,8 @@
 -- `get_intersection` meets its contract: it tries sides in the source's order, and what it finds is near. Assumes nothing.
-use mathlib.Core.Path.{_≡_, sym, ap, _∙_, subst}
+use mathlib.Core.Path.{_≡_}
 use Rattle.plane.specs.Intersection.{side-intersection, get-intersection}
 use Rattle.plane.specs.declared.crossing.Search.{Search}
 use Rattle.plane.specs.declared.location.Location.{Location}
-use Rattle.plane.specs.declared.location.Location.the-variants.{Left, Top, Right, Bottom, Inside}
 use Rattle.plane.specs.declared.point.Point64.{Point64}
 use Rattle.plane.specs.declared.rect.Rect64.{Rect64}
 use Rattle.rectclip.specs.Bounds.{SearchLimits, InReach}

@@ -1,5 +1,5 @@
 -- `get_segment_intersection` meets its contract. Assumes nothing.
-use mathlib.Core.Path.{_≡_, _∙_}
+use mathlib.Core.Path.{_∙_}
 use Rattle.rectclip.proofs.Segments.{zero-yes, zero-no, alike, collinear, start-on, end-on, one-side, both-sides}
 use borrow.Author.Needs.{needs}
 use Rattle.rectclip.proofs.search.get_segment_intersection.Statement.{statement}

@@ -1,5 +1,5 @@
 -- `side_intersection` meets its contract: the first of its edges that has a crossing answers. Assumes nothing.
-use mathlib.Core.Path.{_≡_, ap, _∙_}
+use mathlib.Core.Path.{ap, _∙_}
 use Rattle.plane.specs.Intersection.{edge-intersection}
 use Rattle.plane.specs.declared.location.Location.{Location}
 use Rattle.rectclip.specs.Parted.{beyond-intersection}

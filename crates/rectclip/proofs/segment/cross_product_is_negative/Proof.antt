@@ -1,5 +1,4 @@
 -- `cross_product_is_negative` meets its contract.
-use mathlib.Core.Path.{_≡_}
 use mathlib.Core.List.{List, [], _∷_}
 use Prim.Native.Nat.{ℕ}
 use lib.IntN.{pos}

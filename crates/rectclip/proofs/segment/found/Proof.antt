@@ -1,6 +1,4 @@
 -- `found` meets its contract. Assumes nothing.
-use mathlib.Core.Path.{_≡_, sym, ap, _∙_}
-use mathlib.Core.Bool.{Bool, cond}
 use lib.Ieee.{ofBits}
 use Rattle.plane.specs.Segment.{crossingOf}
 use Rattle.rectclip.proofs.segment.found.Statement.{statement}

@@ -1,5 +1,5 @@
 -- `is_clockwise_dir` meets its contract. Assumes nothing.
-use mathlib.Core.Path.{_≡_, sym, _∙_}
+use mathlib.Core.Path.{sym, _∙_}
 use Rattle.plane.specs.Signs.{is-clockwise-dir}
 use borrow.Author.Needs.{needs}
 use Rattle.rectclip.proofs.segment.is_clockwise_dir.Statement.{statement}

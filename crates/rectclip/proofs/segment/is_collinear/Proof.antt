@@ -1,5 +1,4 @@
 -- `is_collinear` meets its contract.
-use mathlib.Core.Path.{_≡_}
 use mathlib.Core.List.{List, [], _∷_}
 use Prim.Native.Nat.{ℕ}
 use Rattle.integers.specs.Ring.{Ex, v0, v1, v2, v3, v4, v5, _⊖_, _⊗_}

@@ -10,7 +10,7 @@ use mir.Syntax.{w64}
 use mir.Val.{toZ, ofZ}
 use mir.ValLaws.{toZ-ofZ}
 use lib.Ieee.{Float, binary64, sub, mul, div}
-use Rattle.plane.specs.Segment.{workingOf, determinant, numerator, fraction}
+use Rattle.plane.specs.Segment.{workingOf}
 use Rattle.rounding.specs.Coordinate.{float}
 use Rattle.plane.specs.declared.point.Point64.{Point64}
 use Rattle.plane.specs.declared.crossing.Working.{Working}

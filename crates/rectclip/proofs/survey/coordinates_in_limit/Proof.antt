@@ -1,5 +1,5 @@
 -- `coordinates_in_limit` meets its contract. Assumes nothing.
-use mathlib.Core.Path.{_≡_, ap, _∙_}
+use mathlib.Core.Path.{ap, _∙_}
 use native.Mathlib.Omega.{arith}
 use Rattle.plane.specs.Limit.{rect-in-limit}
 use Rattle.plane.specs.declared.rect.Rect64.{Rect64}

@@ -8,7 +8,7 @@ use lib.ListN.{length, drop, getD}
 use mir.Syntax.{w64}
 use mir.Val.{SFits}
 use mir.Facts.{toZ-ofZ}
-use Rattle.plane.specs.Points.{point, points-of}
+use Rattle.plane.specs.Points.{points-of}
 use Rattle.plane.specs.Rectangle.{bounds-from, get-bounds-path}
 use Rattle.plane.specs.declared.rect.Rect64.{Rect64}
 use Rattle.rectclip.proofs.PathBounds.{grow-step, grow-short}

@@ -1,5 +1,5 @@
 -- `sheet_refusal` meets its contract: the first check that fails answers. Assumes nothing.
-use mathlib.Core.Path.{_≡_, sym, _∙_}
+use mathlib.Core.Path.{sym, _∙_}
 use borrow.Author.Tests.{not-true, not-false}
 use native.Mathlib.Omega.{arith}
 use Rattle.rectclip.proofs.Sheets.{too-long, rect-outside, path-outside, sheet-passes}

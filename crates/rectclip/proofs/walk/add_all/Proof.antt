@@ -1,5 +1,6 @@
 use mathlib.Core.Path.{_∙_}
-use Rattle.rectclip.proofs.Limits.{path-limited, close-of}
+use Rattle.rectclip.proofs.Limits.{path-limited}
+use Rattle.rectclip.proofs.Reach.{reached}
 use Prim.Native.Nat.{_-_}
 use borrow.Author.Needs.{needs}
 use Rattle.rectclip.proofs.Turning.{AllGoing, all-start, all-again, all-lost, all-done}
@@ -26,7 +27,7 @@ point-at-requires c κs = search needs
 
 -- src/walk.rt:102:13
 add-requires : tie.Need-add-requires Inv-loop μ-loop
-add-requires c κs = record { fits = c .before .before .before .before .loop .inv .going .fits; close = rw (c .point-at .ensures) (close-of (let s : tie.Start Inv-loop μ-loop = search in path-limited (s .args .path .now) (s .pre .limit) (c .before .before .before .before .loop .i))) }
+add-requires c κs = record { fits = c .before .before .before .before .loop .inv .going .fits; close = rw (c .point-at .ensures) (reached (let s : tie.Start Inv-loop μ-loop = search in path-limited (s .args .path .now) (s .pre .limit) (c .before .before .before .before .loop .i))) }
 
 -- src/walk.rt:103:26
 enum-known-r : tie.Need-enum-known-r Inv-loop μ-loop

@@ -1,5 +1,5 @@
 -- `Location::get_adjacent_location` meets its contract: a place in the side order is at most 4. Assumes nothing.
-use mathlib.Core.Path.{_≡_, ap, _∙_}
+use mathlib.Core.Path.{ap, _∙_}
 use Prim.Native.Nat.{ℕ, _+_, _%_}
 use Rattle.plane.specs.Locations.{side}
 use native.Mathlib.Omega.{arith}

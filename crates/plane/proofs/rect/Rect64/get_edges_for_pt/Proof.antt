@@ -1,5 +1,4 @@
 -- `Rect64::get_edges_for_pt` meets its contract: a bit for the axis across, and one for the axis down. Assumes nothing.
-use mathlib.Core.Path.{_≡_}
 use Prim.Native.Nat.{_+_}
 use native.Mathlib.Omega.{arith}
 use mir.Syntax.{w64}

@@ -1,0 +1,60 @@
+-- `first_point` meets its contract: from inside the first point is added to nothing.
+use mathlib.Core.Path.{refl, sym, _∙_}
+use Prim.Native.Nat.{_/_}
+use lib.ListN.{length}
+use Rattle.plane.specs.Points.{points-of, pt-at}
+use Rattle.reference.specs.Walk.{no-room, add, add-all}
+use mathlib.Core.Bool.{false}
+use Rattle.rectclip.proofs.Limits.{path-limited}
+use Rattle.rectclip.proofs.Reach.{reached}
+use Rattle.rectclip.proofs.Opening.{fits-fresh, from-fresh, fresh-walked, first-inside, first-outside, step-by}
+use borrow.Author.Needs.{needs}
+use Rattle.rectclip.proofs.line_walk.first_point.Statement.{statement}
+use Rattle.rectclip.proofs.line_walk.first_point.Tie as tie
+use Rattle.rectclip.proofs.line_walk.first_point.Reads as reads
+use Rattle.rectclip.proofs.line_walk.first_point.Lts as lts
+use Rattle.plane.proofs.location.Location.is_inside.Reads as is-inside-reads
+use Rattle.rectclip.proofs.lists.point_at.Reads as point-at-reads
+use Rattle.rectclip.proofs.walk.WalkState.new.Reads as new-reads
+use Rattle.rectclip.proofs.walk.add.Reads as add-reads
+
+is-inside-requires : tie.Need-is-inside-requires
+is-inside-requires c κs = search needs
+
+new-requires : tie.Need-new-requires
+new-requires c κs = search needs
+
+point-at-requires : tie.Need-point-at-requires
+point-at-requires c κs = search needs
+
+add-requires : tie.Need-add-requires
+add-requires c κs = let s : tie.Start = search in record { fits = rw (c .before .new .ensures) (fits-fresh (s .pre .room) (s .pre .few)); close = rw (c .point-at .ensures) (reached (path-limited (s .args .path .now) (s .pre .limit) 0)) }
+
+same-length : tie.Need-same-length
+same-length c = search needs
+
+same-length-2 : tie.Need-same-length-2
+same-length-2 c = search needs
+
+returns : tie.Need-returns
+returns c = let s : tie.Start = search in step-by (first-inside _ (points-of (s .args .path .now)) (s .args .loc) (sym (c .before .before .before .before .before .before .before .before .before .is-inside .ensures) ∙ c .before .before .before .before .before .before .before .before .if1 .taken)) (rw (c .before .before .before .before .point-at .ensures) at (from-fresh (s .args .store .now) (s .args .work .now) (λ w. add (no-room (length (s .args .store .now) / 2)) w (c .before .before .before .before .point-at .result) false) (c .before .before .before .before .before .new .ensures) (c .before .before .before .add .ensures)))
+
+new-requires-2 : tie.Need-new-requires-2
+new-requires-2 c κs = search needs
+
+returns-2 : tie.Need-returns-2
+returns-2 c = let s : tie.Start = search in fresh-walked (s .args .store .now) (s .args .work .now) (c .new2 .ensures) (fits-fresh (s .pre .room) (s .pre .few)) (first-outside _ (points-of (s .args .path .now)) (s .args .loc) (sym (c .before .before .is-inside .ensures) ∙ c .before .if1 .left))
+
+pub first-point-spec : {M : Type 1} → statement M
+first-point-spec =
+    tie.close
+    (tie.spec
+    is-inside-requires
+    new-requires
+    point-at-requires
+    add-requires
+    same-length
+    same-length-2
+    returns
+    new-requires-2
+    returns-2)

@@ -1,0 +1,82 @@
+-- `line_through` meets its contract: the second search, and two points added.
+use mathlib.Core.Path.{refl, sym, _∙_}
+use Rattle.rectclip.proofs.Limits.{path-limited, searches}
+use Rattle.rectclip.proofs.Reach.{reached}
+use Rattle.rectclip.proofs.Crossing.{through-none, through-stop, through-go}
+use borrow.Author.Needs.{needs}
+use Rattle.rectclip.proofs.line_walk.line_through.Statement.{statement}
+use Rattle.rectclip.proofs.line_walk.line_through.Tie as tie
+use Rattle.rectclip.proofs.line_walk.line_through.Reads as reads
+use Rattle.rectclip.proofs.line_walk.line_through.Lts as lts
+use Rattle.rectclip.proofs.line_walk.move_of.Reads as move-of-reads
+use Rattle.rectclip.proofs.search.get_intersection.Reads as get-intersection-reads
+use Rattle.rectclip.proofs.walk.add.Reads as add-reads
+
+get-intersection-requires : tie.Need-get-intersection-requires
+get-intersection-requires c κs = let s : tie.Start = search in searches (s .pre .frame) (s .pre .start) (s .pre .end)
+
+enum-known-ip2 : tie.Need-enum-known-ip2
+enum-known-ip2 c = search needs
+
+enum-told : tie.Need-enum-told
+enum-told c = search needs
+
+returns : tie.Need-returns
+returns c = let s : tie.Start = search in through-none (s .args .rect) (s .args .store .now) (s .args .work .now) (s .args .nx) (s .args .prev) (s .args .prev-pt) (s .args .pt) (s .args .ip) (c .before .before .get-intersection .ensures .0) (c .enum-told .given .1)
+
+add-requires : tie.Need-add-requires
+add-requires c κs = let s : tie.Start = search in record { fits = s .pre .fits; close = c .before .before .before .before .before .get-intersection .ensures .1 .reached (s .pre .extent) _ _ (c .before .before .before .ip2 .given .1) }
+
+enum-known-r : tie.Need-enum-known-r
+enum-known-r c = search needs
+
+enum-told-2 : tie.Need-enum-told-2
+enum-told-2 c = search needs
+
+move-of-requires : tie.Need-move-of-requires
+move-of-requires c κs = search needs
+
+same-length : tie.Need-same-length
+same-length c = search needs
+
+same-length-2 : tie.Need-same-length-2
+same-length-2 c = search needs
+
+returns-2 : tie.Need-returns-2
+returns-2 c = let s : tie.Start = search in through-stop (s .args .rect) (s .args .store .now) (s .args .work .now) (s .args .nx) (s .args .prev) (s .args .prev-pt) (s .args .pt) (s .args .ip) (c .before .before .before .before .before .before .before .before .before .before .before .before .get-intersection .ensures .0) (c .before .before .before .before .before .before .before .before .before .before .ip2 .given .1) (c .before .before .before .before .before .before .add .ensures) _ (c .before .enum-told2 .given .1) (c .move-of .ensures)
+
+add-requires-2 : tie.Need-add-requires-2
+add-requires-2 c κs = let s : tie.Start = search in record { fits = c .before .before .before .before .before .before .before .before .add .ensures .fits _ (c .before .before .before .r .given .1); close = s .pre .at }
+
+move-of-requires-2 : tie.Need-move-of-requires-2
+move-of-requires-2 c κs = search needs
+
+same-length-3 : tie.Need-same-length-3
+same-length-3 c = search needs
+
+same-length-4 : tie.Need-same-length-4
+same-length-4 c = search needs
+
+returns-3 : tie.Need-returns-3
+returns-3 c = let s : tie.Start = search in through-go (s .args .rect) (s .args .store .now) (s .args .work .now) (s .args .nx) (s .args .prev) (s .args .prev-pt) (s .args .pt) (s .args .ip) (c .before .before .before .before .before .before .before .before .before .before .before .before .before .before .before .before .before .before .before .get-intersection .ensures .0) (c .before .before .before .before .before .before .before .before .before .before .before .before .before .before .before .before .before .ip2 .given .1) (c .before .before .before .before .before .before .before .before .before .before .before .before .before .add .ensures) _ (c .before .before .before .before .before .before .before .before .r .given .1) (c .before .before .before .before .before .before .before .before .before .before .before .before .before .add .kept .0) (c .before .before .before .before .add2 .ensures) (c .move-of2 .ensures)
+
+pub line-through-spec : {M : Type 1} → statement M
+line-through-spec =
+    tie.close
+    (tie.spec
+    get-intersection-requires
+    enum-known-ip2
+    enum-told
+    returns
+    add-requires
+    enum-known-r
+    enum-told-2
+    move-of-requires
+    same-length
+    same-length-2
+    returns-2
+    add-requires-2
+    move-of-requires-2
+    same-length-3
+    same-length-4
+    returns-3)
