@@ -1,8 +1,4 @@
 -- Laws that the functions' proofs cite.
-pub mod Memory
-pub mod Columns
-pub mod Coordinates
-pub mod Clearing
 pub mod Reach
 pub mod Segments
 pub mod Limits
@@ -11,6 +7,16 @@ pub mod Adding
 pub mod Turning
 pub mod Scanning
 pub mod Moving
+pub mod Closing
+pub mod ClosedPass
+pub mod ClosedPasses
+pub mod Added
+pub mod StartSides
+pub mod Retracing
+pub mod GoingRound
+pub mod RectPath
+pub mod Outlining
+pub mod ClosedWalk
 pub mod Searches
 pub mod PathBounds
 pub mod Sheets
@@ -18,6 +24,14 @@ pub mod Scans
 pub mod ScanSteps
 pub mod ScanPasses
 pub mod Polygons
+pub mod Memory
+pub mod Columns
+pub mod Coordinates
+pub mod Clearing
 pub mod Passing
 pub mod Crossing
 pub mod Opening
+pub mod Results
+pub mod Writing
+pub mod Delivering
+pub mod Entering

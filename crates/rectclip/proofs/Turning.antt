@@ -83,6 +83,12 @@ pub record Round (loc : Location) (cw : Bool) (step : ℕ → Walk → Location 
   pub go : (L left : ℕ) (w v : Walk) (p : Location) → ok v ≡ step L w p → same-location (get-adjacent-location p cw) loc ≡ false → run L left v (get-adjacent-location p cw) ≡ run L (suc left) w p
   pub none : (L : ℕ) (w : Walk) (p : Location) → ok w ≡ run L 0 w p
 
+-- `add_corner_loc`: the corner is added, and the walk comes to the adjacent location
+pub corner-loc-is : (full : ℕ → Bool) (rect : Rect64) (w : Walk) (loc : Location) (cw : Bool)
+    → (add full w (turned rect loc cw) false >>= λ v. ok (v, get-adjacent-location loc cw)) ≡ add-corner-loc full rect w loc cw
+unfolding add-corner-loc
+corner-loc-is full rect w loc cw = refl
+
 pub corner-round : (rect : Rect64) (loc : Location) (cw : Bool) → Round loc cw (λ L w p. add (no-room (L / 2)) w (turned rect p cw) false) (λ L left w p. add-corners (no-room (L / 2)) rect left w p loc cw)
 unfolding add-corners add-corner-loc
 corner-round rect loc cw = record {
@@ -152,7 +158,7 @@ sides-any full rect rect′ (suc left) w p loc cw =
     (λ j v. sides-any full rect rect′ left v (get-adjacent-location p cw) loc cw j)
 
 -- ---- a start side
-location-number : (loc : Location) → location (side-number loc) ≡ loc
+pub location-number : (loc : Location) → location (side-number loc) ≡ loc
 location-number Left = refl
 location-number Top = refl
 location-number Right = refl

@@ -43,7 +43,7 @@ impl WalkState {
 }
 
 // `add` where a new result begins.
-pub(crate) fn begin(store: &mut [i64], work: &mut [u32], s: WalkState, pt: Point64) -> Step
+fn begin(store: &mut [i64], work: &mut [u32], s: WalkState, pt: Point64) -> Step
     requires { ⌜ Adds (now store) (now work) s pt ⌝ }
     ensures { λ r. ⌜ Stepped (add (no-room (length (now (store .entry)) / 2)) (walk-of (now (store .entry)) (now (work .entry)) s) pt true) (now (store .exit)) (now (work .exit)) r ⌝ }
 {

@@ -4,11 +4,6 @@ use Rattle.rectclip.proofs.Limits.{close-corner}
 use borrow.Author.Needs.{needs}
 use Rattle.rectclip.proofs.corners.add_corner_loc.Statement.{statement}
 use Rattle.rectclip.proofs.corners.add_corner_loc.Tie as tie
-use Rattle.rectclip.proofs.corners.add_corner_loc.Reads as reads
-use Rattle.rectclip.proofs.corners.add_corner_loc.Lts as lts
-use Rattle.plane.proofs.location.Location.get_adjacent_location.Reads as get-adjacent-location-reads
-use Rattle.plane.proofs.rect.Rect64.corner.Reads as corner-reads
-use Rattle.rectclip.proofs.walk.add.Reads as add-reads
 
 corner-requires : tie.Need-corner-requires
 corner-requires c κs = search needs

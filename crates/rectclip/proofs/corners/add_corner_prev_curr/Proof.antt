@@ -5,11 +5,6 @@ use Rattle.reference.specs.Walk.{add-corner-prev-curr}
 use borrow.Author.Needs.{needs}
 use Rattle.rectclip.proofs.corners.add_corner_prev_curr.Statement.{statement}
 use Rattle.rectclip.proofs.corners.add_corner_prev_curr.Tie as tie
-use Rattle.rectclip.proofs.corners.add_corner_prev_curr.Reads as reads
-use Rattle.rectclip.proofs.corners.add_corner_prev_curr.Lts as lts
-use Rattle.plane.proofs.location.Location.heading_clockwise.Reads as heading-clockwise-reads
-use Rattle.plane.proofs.rect.Rect64.corner.Reads as corner-reads
-use Rattle.rectclip.proofs.walk.add.Reads as add-reads
 
 heading-clockwise-requires : tie.Need-heading-clockwise-requires
 heading-clockwise-requires c κs = search needs

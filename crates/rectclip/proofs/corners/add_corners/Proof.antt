@@ -7,11 +7,6 @@ use Rattle.reference.specs.Walk.{no-room, add-corners}
 use borrow.Author.Needs.{needs}
 use Rattle.rectclip.proofs.corners.add_corners.Statement.{statement}
 use Rattle.rectclip.proofs.corners.add_corners.Tie as tie
-use Rattle.rectclip.proofs.corners.add_corners.Reads as reads
-use Rattle.rectclip.proofs.corners.add_corners.Lts as lts
-use Rattle.plane.proofs.location.Location.equals.Reads as equals-reads
-use Rattle.plane.proofs.location.Location.get_adjacent_location.Reads as get-adjacent-location-reads
-use Rattle.rectclip.proofs.corners.add_corner_loc.Reads as add-corner-loc-reads
 
 abbrev Inv-loop : tie.InvT-loop
 Inv-loop rect store₀ work₀ loc is-clockwise w₀ p₀ left₀ store work w p left = RoundGoing (λ L left w p. add-corners (no-room (L / 2)) rect left w p loc is-clockwise) store₀ work₀ w₀ p₀ store work w p left

@@ -8,11 +8,6 @@ use Rattle.reference.specs.Walk.{no-room, push-start-locs}
 use borrow.Author.Needs.{needs}
 use Rattle.rectclip.proofs.corners.push_start_locs.Statement.{statement}
 use Rattle.rectclip.proofs.corners.push_start_locs.Tie as tie
-use Rattle.rectclip.proofs.corners.push_start_locs.Reads as reads
-use Rattle.rectclip.proofs.corners.push_start_locs.Lts as lts
-use Rattle.plane.proofs.location.Location.equals.Reads as equals-reads
-use Rattle.plane.proofs.location.Location.get_adjacent_location.Reads as get-adjacent-location-reads
-use Rattle.rectclip.proofs.walk.push_start_loc.Reads as push-start-loc-reads
 
 abbrev Inv-loop : tie.InvT-loop
 Inv-loop store work₀ loc is-clockwise w₀ p₀ left₀ work w p left = RoundGoing (λ L left w p. push-start-locs (no-room (L / 2)) no-bounds left w p loc is-clockwise) store work₀ w₀ p₀ store work w p left

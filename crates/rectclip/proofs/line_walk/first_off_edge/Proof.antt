@@ -5,10 +5,6 @@ use Rattle.rectclip.proofs.Passing.{Seeking, seek-found, seek-again, se
 use borrow.Author.Needs.{needs}
 use Rattle.rectclip.proofs.line_walk.first_off_edge.Statement.{statement}
 use Rattle.rectclip.proofs.line_walk.first_off_edge.Tie as tie
-use Rattle.rectclip.proofs.line_walk.first_off_edge.Reads as reads
-use Rattle.rectclip.proofs.line_walk.first_off_edge.Lts as lts
-use Rattle.plane.proofs.rect.Rect64.get_location.Reads as get-location-reads
-use Rattle.rectclip.proofs.lists.point_at.Reads as point-at-reads
 
 abbrev Inv-loop : tie.InvT-loop
 Inv-loop rect path n i₀ i = Seeking rect path i

@@ -11,12 +11,6 @@ use Rattle.rectclip.proofs.Opening.{fits-fresh, from-fresh, fresh-walke
 use borrow.Author.Needs.{needs}
 use Rattle.rectclip.proofs.line_walk.first_point.Statement.{statement}
 use Rattle.rectclip.proofs.line_walk.first_point.Tie as tie
-use Rattle.rectclip.proofs.line_walk.first_point.Reads as reads
-use Rattle.rectclip.proofs.line_walk.first_point.Lts as lts
-use Rattle.plane.proofs.location.Location.is_inside.Reads as is-inside-reads
-use Rattle.rectclip.proofs.lists.point_at.Reads as point-at-reads
-use Rattle.rectclip.proofs.walk.WalkState.new.Reads as new-reads
-use Rattle.rectclip.proofs.walk.add.Reads as add-reads
 
 is-inside-requires : tie.Need-is-inside-requires
 is-inside-requires c κs = search needs

@@ -5,12 +5,6 @@ use Rattle.rectclip.proofs.Crossing.{entered, passed, exited}
 use borrow.Author.Needs.{needs}
 use Rattle.rectclip.proofs.line_walk.line_cross.Statement.{statement}
 use Rattle.rectclip.proofs.line_walk.line_cross.Tie as tie
-use Rattle.rectclip.proofs.line_walk.line_cross.Reads as reads
-use Rattle.rectclip.proofs.line_walk.line_cross.Lts as lts
-use Rattle.plane.proofs.location.Location.is_inside.Reads as is-inside-reads
-use Rattle.rectclip.proofs.line_walk.line_through.Reads as line-through-reads
-use Rattle.rectclip.proofs.line_walk.move_of.Reads as move-of-reads
-use Rattle.rectclip.proofs.walk.add.Reads as add-reads
 
 is-inside-requires : tie.Need-is-inside-requires
 is-inside-requires c κs = search needs

@@ -7,11 +7,6 @@ use Rattle.rectclip.proofs.Crossing.{from-over, from-next, from-crossin
 use borrow.Author.Needs.{needs}
 use Rattle.rectclip.proofs.line_walk.line_from.Statement.{statement}
 use Rattle.rectclip.proofs.line_walk.line_from.Tie as tie
-use Rattle.rectclip.proofs.line_walk.line_from.Reads as reads
-use Rattle.rectclip.proofs.line_walk.line_from.Lts as lts
-use Rattle.rectclip.proofs.line_walk.line_cross.Reads as line-cross-reads
-use Rattle.rectclip.proofs.lists.point_at.Reads as point-at-reads
-use Rattle.rectclip.proofs.search.get_intersection.Reads as get-intersection-reads
 
 returns : tie.Need-returns
 returns c = let s : tie.Start = search in from-over (s .args .rect) (s .args .path .now) (s .args .store .now) (s .args .work .now) (s .args .prev) (s .args .nx) (s .pre .fits) (c .if1 .taken)

@@ -10,10 +10,6 @@ use Rattle.rectclip.proofs.Passing.{move-then, move-stops}
 use borrow.Author.Needs.{needs}
 use Rattle.rectclip.proofs.line_walk.line_pass.Statement.{statement}
 use Rattle.rectclip.proofs.line_walk.line_pass.Tie as tie
-use Rattle.rectclip.proofs.line_walk.line_pass.Reads as reads
-use Rattle.rectclip.proofs.line_walk.line_pass.Lts as lts
-use Rattle.rectclip.proofs.line_walk.line_from.Reads as line-from-reads
-use Rattle.rectclip.proofs.next.get_next_location.Reads as get-next-location-reads
 
 get-next-location-requires : tie.Need-get-next-location-requires
 get-next-location-requires c κs = search needs

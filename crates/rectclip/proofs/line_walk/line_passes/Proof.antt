@@ -5,9 +5,6 @@ use Rattle.rectclip.proofs.Passing.{PassesGoing, passes-start, passes-p
 use borrow.Author.Needs.{needs}
 use Rattle.rectclip.proofs.line_walk.line_passes.Statement.{statement}
 use Rattle.rectclip.proofs.line_walk.line_passes.Tie as tie
-use Rattle.rectclip.proofs.line_walk.line_passes.Reads as reads
-use Rattle.rectclip.proofs.line_walk.line_passes.Lts as lts
-use Rattle.rectclip.proofs.line_walk.line_pass.Reads as line-pass-reads
 
 abbrev Inv-loop : tie.InvT-loop
 Inv-loop rect path store₀ work₀ n s₀ left₀ store work s left = PassesGoing rect path store₀ work₀ s₀ store work s left

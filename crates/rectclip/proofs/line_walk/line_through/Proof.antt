@@ -6,11 +6,6 @@ use Rattle.rectclip.proofs.Crossing.{through-none, through-stop, throug
 use borrow.Author.Needs.{needs}
 use Rattle.rectclip.proofs.line_walk.line_through.Statement.{statement}
 use Rattle.rectclip.proofs.line_walk.line_through.Tie as tie
-use Rattle.rectclip.proofs.line_walk.line_through.Reads as reads
-use Rattle.rectclip.proofs.line_walk.line_through.Lts as lts
-use Rattle.rectclip.proofs.line_walk.move_of.Reads as move-of-reads
-use Rattle.rectclip.proofs.search.get_intersection.Reads as get-intersection-reads
-use Rattle.rectclip.proofs.walk.add.Reads as add-reads
 
 get-intersection-requires : tie.Need-get-intersection-requires
 get-intersection-requires c κs = let s : tie.Start = search in searches (s .pre .frame) (s .pre .start) (s .pre .end)

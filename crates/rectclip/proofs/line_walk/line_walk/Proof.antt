@@ -10,15 +10,6 @@ use Rattle.rectclip.proofs.Opening.{fits-fresh, from-fresh, fresh-walke
 use borrow.Author.Needs.{needs}
 use Rattle.rectclip.proofs.line_walk.line_walk.Statement.{statement}
 use Rattle.rectclip.proofs.line_walk.line_walk.Tie as tie
-use Rattle.rectclip.proofs.line_walk.line_walk.Reads as reads
-use Rattle.rectclip.proofs.line_walk.line_walk.Lts as lts
-use Rattle.plane.proofs.location.Location.is_inside.Reads as is-inside-reads
-use Rattle.plane.proofs.rect.Rect64.get_location.Reads as get-location-reads
-use Rattle.rectclip.proofs.line_walk.first_off_edge.Reads as first-off-edge-reads
-use Rattle.rectclip.proofs.line_walk.line_walk_from.Reads as line-walk-from-reads
-use Rattle.rectclip.proofs.lists.point_at.Reads as point-at-reads
-use Rattle.rectclip.proofs.walk.WalkState.new.Reads as new-reads
-use Rattle.rectclip.proofs.walk.add_all.Reads as add-all-reads
 
 new-requires : tie.Need-new-requires
 new-requires c κs = search needs

@@ -5,11 +5,6 @@ use Rattle.rectclip.proofs.Opening.{walk-lost, walk-passed}
 use borrow.Author.Needs.{needs}
 use Rattle.rectclip.proofs.line_walk.line_walk_from.Statement.{statement}
 use Rattle.rectclip.proofs.line_walk.line_walk_from.Tie as tie
-use Rattle.rectclip.proofs.line_walk.line_walk_from.Reads as reads
-use Rattle.rectclip.proofs.line_walk.line_walk_from.Lts as lts
-use Rattle.rectclip.proofs.line_walk.first_point.Reads as first-point-reads
-use Rattle.rectclip.proofs.line_walk.line_passes.Reads as line-passes-reads
-use Rattle.rectclip.proofs.line_walk.step_of.Reads as step-of-reads
 
 first-point-requires : tie.Need-first-point-requires
 first-point-requires c κs = let s : tie.Start = search in record { room = s .pre .ready .room; few = s .pre .ready .few; limit = s .pre .ready .sheet .points; some = s .pre .some }

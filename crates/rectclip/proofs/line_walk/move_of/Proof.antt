@@ -3,8 +3,6 @@ use mathlib.Core.Path.{refl, sym, _∙_}
 use borrow.Author.Needs.{needs}
 use Rattle.rectclip.proofs.line_walk.move_of.Statement.{statement}
 use Rattle.rectclip.proofs.line_walk.move_of.Tie as tie
-use Rattle.rectclip.proofs.line_walk.move_of.Reads as reads
-use Rattle.rectclip.proofs.line_walk.move_of.Lts as lts
 
 enum-known-r : tie.Need-enum-known-r
 enum-known-r c = search needs

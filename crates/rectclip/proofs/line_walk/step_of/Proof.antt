@@ -3,8 +3,6 @@ use mathlib.Core.Path.{refl, sym, _∙_}
 use borrow.Author.Needs.{needs}
 use Rattle.rectclip.proofs.line_walk.step_of.Statement.{statement}
 use Rattle.rectclip.proofs.line_walk.step_of.Tie as tie
-use Rattle.rectclip.proofs.line_walk.step_of.Reads as reads
-use Rattle.rectclip.proofs.line_walk.step_of.Lts as lts
 
 enum-known-m : tie.Need-enum-known-m
 enum-known-m c = search needs

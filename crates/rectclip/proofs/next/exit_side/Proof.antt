@@ -3,9 +3,6 @@ use mathlib.Core.Path.{refl, sym, _∙_}
 use borrow.Author.Needs.{needs}
 use Rattle.rectclip.proofs.next.exit_side.Statement.{statement}
 use Rattle.rectclip.proofs.next.exit_side.Tie as tie
-use Rattle.rectclip.proofs.next.exit_side.Reads as reads
-use Rattle.rectclip.proofs.next.exit_side.Lts as lts
-use Rattle.plane.proofs.rect.Rect64.beyond.Reads as beyond-reads
 
 beyond-requires : tie.Need-beyond-requires
 beyond-requires c κs = search needs

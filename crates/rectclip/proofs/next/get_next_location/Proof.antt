@@ -5,11 +5,6 @@ use Rattle.rectclip.proofs.Moving.{outside-moved}
 use borrow.Author.Needs.{needs}
 use Rattle.rectclip.proofs.next.get_next_location.Statement.{statement}
 use Rattle.rectclip.proofs.next.get_next_location.Tie as tie
-use Rattle.rectclip.proofs.next.get_next_location.Reads as reads
-use Rattle.rectclip.proofs.next.get_next_location.Lts as lts
-use Rattle.plane.proofs.location.Location.is_inside.Reads as is-inside-reads
-use Rattle.rectclip.proofs.next.next_inside.Reads as next-inside-reads
-use Rattle.rectclip.proofs.next.next_outside.Reads as next-outside-reads
 
 is-inside-requires : tie.Need-is-inside-requires
 is-inside-requires c κs = search needs

@@ -6,8 +6,6 @@ use Rattle.integers.specs.Tests.{plain}
 use borrow.Author.Needs.{needs}
 use Rattle.rectclip.proofs.next.is_past.Statement.{statement}
 use Rattle.rectclip.proofs.next.is_past.Tie as tie
-use Rattle.rectclip.proofs.next.is_past.Reads as reads
-use Rattle.rectclip.proofs.next.is_past.Lts as lts
 
 known : (s : tie.Start) → SFits w64 (s .args .line .bound) × SFits w64 (s .args .v)
 known s = search needs

@@ -8,8 +8,6 @@ use native.Mathlib.Omega.{arith}
 use borrow.Author.Needs.{needs}
 use Rattle.rectclip.proofs.next.line_of.Statement.{statement}
 use Rattle.rectclip.proofs.next.line_of.Tie as tie
-use Rattle.rectclip.proofs.next.line_of.Reads as reads
-use Rattle.rectclip.proofs.next.line_of.Lts as lts
 
 known : (s : tie.Start) → SFits w64 (s .args .rect .left) × SFits w64 (s .args .rect .top) × SFits w64 (s .args .rect .right) × SFits w64 (s .args .rect .bottom)
 known s = search needs

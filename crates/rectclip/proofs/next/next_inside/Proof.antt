@@ -8,12 +8,6 @@ use Rattle.rectclip.proofs.Moving.{InsideGoing, inside-starts, inside-e
 use borrow.Author.Needs.{needs}
 use Rattle.rectclip.proofs.next.next_inside.Statement.{statement}
 use Rattle.rectclip.proofs.next.next_inside.Tie as tie
-use Rattle.rectclip.proofs.next.next_inside.Reads as reads
-use Rattle.rectclip.proofs.next.next_inside.Lts as lts
-use Rattle.plane.proofs.location.Location.is_inside.Reads as is-inside-reads
-use Rattle.rectclip.proofs.lists.point_at.Reads as point-at-reads
-use Rattle.rectclip.proofs.next.exit_side.Reads as exit-side-reads
-use Rattle.rectclip.proofs.walk.add.Reads as add-reads
 
 abbrev Inv-loop : tie.InvT-loop
 Inv-loop rect path store₀ work₀ from n w₀ i₀ store work w i = InsideGoing rect path store₀ work₀ w₀ from store work w i

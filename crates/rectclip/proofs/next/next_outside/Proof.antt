@@ -3,12 +3,6 @@ use Rattle.rectclip.proofs.Scanning.{outside-past, outside-met}
 use borrow.Author.Needs.{needs}
 use Rattle.rectclip.proofs.next.next_outside.Statement.{statement}
 use Rattle.rectclip.proofs.next.next_outside.Tie as tie
-use Rattle.rectclip.proofs.next.next_outside.Reads as reads
-use Rattle.rectclip.proofs.next.next_outside.Lts as lts
-use Rattle.rectclip.proofs.lists.point_at.Reads as point-at-reads
-use Rattle.rectclip.proofs.next.line_of.Reads as line-of-reads
-use Rattle.rectclip.proofs.next.next_side.Reads as next-side-reads
-use Rattle.rectclip.proofs.next.scan.Reads as scan-reads
 
 line-of-requires : tie.Need-line-of-requires
 line-of-requires c κs = search needs

@@ -3,12 +3,6 @@ use Rattle.rectclip.proofs.Scanning.{side-across, side-lower, side-uppe
 use borrow.Author.Needs.{needs}
 use Rattle.rectclip.proofs.next.next_side.Statement.{statement}
 use Rattle.rectclip.proofs.next.next_side.Tie as tie
-use Rattle.rectclip.proofs.next.next_side.Reads as reads
-use Rattle.rectclip.proofs.next.next_side.Lts as lts
-use Rattle.plane.proofs.location.Location.lower.Reads as lower-reads
-use Rattle.plane.proofs.location.Location.opposite.Reads as opposite-reads
-use Rattle.plane.proofs.location.Location.upper.Reads as upper-reads
-use Rattle.plane.proofs.rect.Rect64.beyond_or_on.Reads as beyond-or-on-reads
 
 opposite-requires : tie.Need-opposite-requires
 opposite-requires c κs = search needs

@@ -7,9 +7,6 @@ use Rattle.rectclip.proofs.Scanning.{Scanning, scan-stops, scan-again, 
 use borrow.Author.Needs.{needs}
 use Rattle.rectclip.proofs.next.scan.Statement.{statement}
 use Rattle.rectclip.proofs.next.scan.Tie as tie
-use Rattle.rectclip.proofs.next.scan.Reads as reads
-use Rattle.rectclip.proofs.next.scan.Lts as lts
-use Rattle.rectclip.proofs.next.is_past.Reads as is-past-reads
 
 abbrev Inv-loop : tie.InvT-loop
 Inv-loop path line from n offset i₀ i = Scanning path line from i

@@ -1,88 +1,64 @@
+-- `add` meets its contract: a new result, a point that is skipped, no room, or a point behind the last one.
 use mathlib.Core.Path.{sym, _∙_}
 use Rattle.rectclip.proofs.Adding.{pos-of, first-is-new, same-skipped, other-refused, other-walked}
 use borrow.Author.Needs.{needs}
 use Rattle.rectclip.proofs.walk.add.Statement.{statement}
 use Rattle.rectclip.proofs.walk.add.Tie as tie
-use Rattle.rectclip.proofs.walk.add.Reads as reads
-use Rattle.rectclip.proofs.walk.add.Lts as lts
-use Rattle.plane.proofs.point.Point64.equals.Reads as equals-reads
-use Rattle.rectclip.proofs.lists.point_at.Reads as point-at-reads
-use Rattle.rectclip.proofs.lists.put_point.Reads as put-point-reads
-use Rattle.rectclip.proofs.walk.begin.Reads as begin-reads
 
--- src/walk.rt:70:9
 begin-requires : tie.Need-begin-requires
 begin-requires c κs = search needs
 
--- src/walk.rt:70:9
 same-length : tie.Need-same-length
 same-length c = search needs
 
--- src/walk.rt:70:9
 same-length-2 : tie.Need-same-length-2
 same-length-2 c = search needs
 
--- src/walk.rt:70:9
 returns : tie.Need-returns
 returns c = let s : tie.Start = search in rw (c .before .before .before .before .before .before .if1 .taken) (c .before .before .before .begin .ensures)
 
--- src/walk.rt:73:9
 begin-requires-2 : tie.Need-begin-requires-2
 begin-requires-2 c κs = search needs
 
--- src/walk.rt:73:9
 same-length-3 : tie.Need-same-length-3
 same-length-3 c = search needs
 
--- src/walk.rt:73:9
 same-length-4 : tie.Need-same-length-4
 same-length-4 c = search needs
 
--- src/walk.rt:73:9
 returns-2 : tie.Need-returns-2
 returns-2 c = let s : tie.Start = search in rw (c .before .before .before .before .before .before .before .if1 .left) (first-is-new (s .pre) (c .before .before .before .before .before .before .if2 .taken) (c .before .before .before .begin2 .ensures))
 
--- src/walk.rt:75:32
 sub-point-at : tie.Need-sub-point-at
 sub-point-at c = search needs
 
--- src/walk.rt:75:9
 point-at-requires : tie.Need-point-at-requires
 point-at-requires c κs = search needs
 
--- src/walk.rt:76:8
 equals-requires : tie.Need-equals-requires
 equals-requires c κs = search needs
 
--- src/walk.rt:77:9
 same-length-5 : tie.Need-same-length-5
 same-length-5 c = search needs
 
--- src/walk.rt:77:9
 returns-3 : tie.Need-returns-3
 returns-3 c = let s : tie.Start = search in rw (c .before .before .before .before .before .if1 .left) (same-skipped (s .pre) (pos-of (c .before .before .before .before .if2 .left)) (c .before .before .point-at .ensures) (sym (c .before .equals .ensures) ∙ c .if3 .taken))
 
--- src/walk.rt:80:9
 same-length-6 : tie.Need-same-length-6
 same-length-6 c = search needs
 
--- src/walk.rt:80:9
 returns-4 : tie.Need-returns-4
 returns-4 c = let s : tie.Start = search in rw (c .before .before .before .before .before .before .if1 .left) (other-refused (s .pre) (pos-of (c .before .before .before .before .before .if2 .left)) (c .before .before .before .point-at .ensures) (sym (c .before .before .equals .ensures) ∙ c .before .if3 .left) (c .if4 .taken))
 
--- src/walk.rt:82:5
 put-point-requires : tie.Need-put-point-requires
 put-point-requires c κs = search needs
 
--- src/walk.rt:84:17
 add-t21 : tie.Need-add-t21
 add-t21 c = search needs
 
--- src/walk.rt:62:1
 same-length-7 : tie.Need-same-length-7
 same-length-7 c = search needs
 
--- src/walk.rt:62:1
 returns-5 : tie.Need-returns-5
 returns-5 c = let s : tie.Start = search in rw (c .before .before .before .before .before .before .before .before .before .if1 .left) (other-walked (s .pre) (pos-of (c .before .before .before .before .before .before .before .before .if2 .left)) (c .before .before .before .before .before .before .point-at .ensures) (sym (c .before .before .before .before .before .equals .ensures) ∙ c .before .before .before .before .if3 .left) (c .before .before .before .if4 .left) (c .before .put-point .ensures))
 

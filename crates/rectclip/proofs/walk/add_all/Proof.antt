@@ -1,3 +1,4 @@
+-- `add_all` meets its contract: what is left to add from point `i` on is what there was to add.
 use mathlib.Core.Path.{_∙_}
 use Rattle.rectclip.proofs.Limits.{path-limited}
 use Rattle.rectclip.proofs.Reach.{reached}
@@ -6,10 +7,6 @@ use borrow.Author.Needs.{needs}
 use Rattle.rectclip.proofs.Turning.{AllGoing, all-start, all-again, all-lost, all-done}
 use Rattle.rectclip.proofs.walk.add_all.Statement.{statement}
 use Rattle.rectclip.proofs.walk.add_all.Tie as tie
-use Rattle.rectclip.proofs.walk.add_all.Reads as reads
-use Rattle.rectclip.proofs.walk.add_all.Lts as lts
-use Rattle.rectclip.proofs.lists.point_at.Reads as point-at-reads
-use Rattle.rectclip.proofs.walk.add.Reads as add-reads
 
 abbrev Inv-loop : tie.InvT-loop
 Inv-loop path store₀ work₀ n w₀ i₀ store work w i = AllGoing path store₀ work₀ w₀ store work w i
@@ -17,59 +14,45 @@ Inv-loop path store₀ work₀ n w₀ i₀ store work w i = AllGoing path store�
 abbrev μ-loop : tie.MeasureT-loop
 μ-loop path store₀ work₀ n w₀ i₀ store work w i = n - i
 
--- src/walk.rt:101:5
 loop-holds : tie.Need-loop-holds Inv-loop μ-loop
 loop-holds c = all-start (c .before .pre .fits)
 
--- src/walk.rt:102:37
 point-at-requires : tie.Need-point-at-requires Inv-loop μ-loop
 point-at-requires c κs = search needs
 
--- src/walk.rt:102:13
 add-requires : tie.Need-add-requires Inv-loop μ-loop
 add-requires c κs = record { fits = c .before .before .before .before .loop .inv .going .fits; close = rw (c .point-at .ensures) (reached (let s : tie.Start Inv-loop μ-loop = search in path-limited (s .args .path .now) (s .pre .limit) (c .before .before .before .before .loop .i))) }
 
--- src/walk.rt:103:26
 enum-known-r : tie.Need-enum-known-r Inv-loop μ-loop
 enum-known-r c = search needs
 
--- src/walk.rt:104:13
 enum-told : tie.Need-enum-told Inv-loop μ-loop
 enum-told c = search needs
 
--- src/walk.rt:104:13
 same-length : tie.Need-same-length Inv-loop μ-loop
 same-length c = c .before .before .before .before .before .add .kept .0 ∙ c .before .before .before .before .before .before .before .before .before .before .loop .inv .going .store-kept
 
--- src/walk.rt:104:13
 same-length-2 : tie.Need-same-length-2 Inv-loop μ-loop
 same-length-2 c = c .before .before .before .before .before .add .kept .1 .0 ∙ c .before .before .before .before .before .before .before .before .before .before .loop .inv .going .work-kept
 
--- src/walk.rt:104:13
 returns : tie.Need-returns Inv-loop μ-loop
 returns c = all-lost (c .before .before .before .before .before .before .before .before .before .before .loop .inv) (c .before .before .before .before .before .before .before .before .before .loop-test .taken) (c .before .before .before .before .before .before .point-at .ensures) (c .before .before .before .before .before .add .ensures) _ (c .enum-told .given .1)
 
--- src/walk.rt:107:9
 add-i : tie.Need-add-i Inv-loop μ-loop
 add-i c = search needs
 
--- src/walk.rt:101:5
 loop-less : tie.Need-loop-less Inv-loop μ-loop
 loop-less c = search needs
 
--- src/walk.rt:101:5
 loop-again : tie.Need-loop-again Inv-loop μ-loop
 loop-again c = all-again (c .before .before .before .before .before .before .before .before .before .before .before .loop .inv) (c .before .before .before .before .before .before .before .before .before .before .loop-test .taken) (c .before .before .before .before .before .before .before .point-at .ensures) (c .before .before .before .before .before .before .add .ensures) _ (c .before .r .given .1) (c .before .before .before .before .before .before .add .kept .0) (c .before .before .before .before .before .before .add .kept .1 .0)
 
--- src/walk.rt:94:1
 same-length-3 : tie.Need-same-length-3 Inv-loop μ-loop
 same-length-3 c = c .before .loop .inv .going .store-kept
 
--- src/walk.rt:94:1
 same-length-4 : tie.Need-same-length-4 Inv-loop μ-loop
 same-length-4 c = c .before .loop .inv .going .work-kept
 
--- src/walk.rt:94:1
 returns-2 : tie.Need-returns-2 Inv-loop μ-loop
 returns-2 c = all-done (c .before .loop .inv) (c .loop-test .left)
 

@@ -1,0 +1,21 @@
+use mathlib.Core.Path.{refl, sym, _∙_}
+use borrow.Author.Needs.{needs}
+use Rattle.rectclip.proofs.outline.outline_of.Statement.{statement}
+use Rattle.rectclip.proofs.outline.outline_of.Tie as tie
+use Rattle.rectclip.proofs.outline.outline_of.Reads as reads
+use Rattle.rectclip.proofs.outline.outline_of.Lts as lts
+
+enum-known-r : tie.Need-enum-known-r
+enum-known-r c = search needs
+
+enum-known-r-2 : tie.Need-enum-known-r-2
+enum-known-r-2 c = search needs
+
+returns : tie.Need-returns
+returns c = rw (c .before .r .given .1) refl
+
+returns-2 : tie.Need-returns-2
+returns-2 c = rw (c .before .r2 .given .1) refl
+
+pub outline-of-spec : {M : Type 1} → statement M
+outline-of-spec = tie.close (tie.spec enum-known-r enum-known-r-2 returns returns-2)

@@ -1,0 +1,70 @@
+-- What the line clipper's entry promises: its answer, every lent list afterwards, and where the returned points come from.
+use mathlib.Core.Path.{_≡_}
+use mathlib.Core.Bool.{Bool, true, false}
+use mathlib.Core.List.{List, map}
+use Prim.Native.Nat.{ℕ, _+_, _*_, _/_, _≤_}
+use lib.IntN.{ℤ}
+use lib.ListN.{length, take}
+use Rattle.plane.specs.declared.point.Point64.{Point64}
+use Rattle.plane.specs.declared.rect.Rect64.{Rect64}
+use Rattle.plane.specs.Basics.{Try, ok, _>>=_}
+use Rattle.plane.specs.Limit.{all-in-limit, rect-in-limit}
+use Rattle.plane.specs.Points.{points-of, coordinates-of}
+use Rattle.plane.specs.Rectangle.{get-bounds-path}
+use Rattle.theorems.specs.Demand.{Sourced}
+use Rattle.reference.specs.Entry.{Drawing, Lent, After, joined, delivered, answered, clip-open, filled-part}
+use Rattle.reference.specs.Lines.{execute-lines}
+use Rattle.reference.specs.Walk.{no-room}
+use Rattle.rectclip.specs.declared.answer.Answer.{Answer}
+use Rattle.rectclip.specs.declared.answer.Answer.the-variants.{Drawn}
+use Rattle.rectclip.specs.declared.answer.Counts.{Counts}
+use Rattle.rectclip.specs.Answers.{outcome}
+use Rattle.rectclip.specs.Memory.{Room}
+
+-- four lists lent by the caller
+abbrev pub lent : List ℤ → List ℕ → List ℤ → List ℕ → Lent
+lent coordinates lengths store work = record { coordinates = coordinates; lengths = lengths; store = store; work = work }
+
+-- the paths that a result returned stand in the leading entries, and each of their points has its source
+pub record Returned (closed : Bool) (rect : Rect64) (path : List ℤ) (c : Counts) (lists : Lent) : Type 0 where
+  pub paths : List (List Point64)
+  pub points : filled-part (lists .coordinates) (c .points) ≡ coordinates-of (joined paths)
+  pub counts : take (c .paths) (lists .lengths) ≡ map length paths
+  pub sourced : Sourced closed rect (points-of path) paths
+
+-- `RectClipLines64::execute`: r is the answer, `before` and `after` are the lent lists
+pub record ClipsOpen (rect : Rect64) (path : List ℤ) (before : Lent) (r : Answer) (after : Lent) : Type 0 where
+  pub answer : outcome r ≡ clip-open rect path before .answer
+  pub coordinates : after .coordinates ≡ clip-open rect path before .lists .coordinates
+  pub lengths : after .lengths ≡ clip-open rect path before .lists .lengths
+  pub store : after .store ≡ clip-open rect path before .lists .store
+  pub work : after .work ≡ clip-open rect path before .lists .work
+  pub returned : (c : Counts) → r ≡ Drawn c → Returned false rect path c after
+
+-- `filled`: the part is the definition's, and it is the front of the caller's own list, at that list's address
+pub record FilledPart {A : Type 0} (coordinates : List ℤ) (address : A) (points : ℕ) (part : List ℤ) (place : A) : Type 0 where
+  pub entries : part ≡ filled-part coordinates points
+  pub own : place ≡ address
+
+-- ---- words of the private functions
+-- the answer and the two lists that are filled are those of a definition's call
+pub record Leaves (a : After) (r : Answer) (coordinates : List ℤ) (lengths : List ℕ) : Type 0 where
+  pub answer : outcome r ≡ a .answer
+  pub coords : coordinates ≡ a .lists .coordinates
+  pub counts : lengths ≡ a .lists .lengths
+
+-- a drawing is handed out; what store and work hold does not matter
+pub record Delivers (d : Drawing) (coordinates : List ℤ) (lengths : List ℕ) (r : Answer) (coordinates′ : List ℤ) (lengths′ : List ℕ) : Type 0 where
+  pub is : (store : List ℤ) (work : List ℕ) → Leaves (delivered (lent coordinates lengths store work) d) r coordinates′ lengths′
+
+-- the line clipper's drawing
+abbrev pub line-drawing : Rect64 → List ℤ → ℕ → Try Drawing
+line-drawing rect path W = execute-lines (no-room W) rect (points-of path) >>= λ paths. ok (paths, 0)
+
+-- a call that no early refusal stopped, and the path's bounds
+pub record Drawable (rect : Rect64) (path : List ℤ) (bounds : Rect64) (store : List ℤ) (work : List ℕ) : Type 0 where
+  pub room : Room (length store / 2 + 1) work
+  pub few : length store / 2 ≤ 65536
+  pub frame : rect-in-limit rect ≡ true
+  pub points : all-in-limit path ≡ true
+  pub bound : bounds ≡ get-bounds-path (points-of path)
