@@ -19,10 +19,15 @@ use Rattle.text.specs.declared.reading.Request.the-variants.{Unreadable,
 use Rattle.text.specs.Decimal.{Field, no-number, number, field}
 use Rattle.text.specs.Reading.{Request, unreadable, rectangle, path, rectangle-of, put-first, fields, numbers, asked, asked-by, request}
 use Rattle.text.specs.Scanning.{counted, leading, behind, leading-behind, path-asked, rectangle-asked}
-use Rattle.text.specs.Asked.{Asks, answer, stored}
+use Rattle.text.specs.Asked.{Asks, answer, led-by}
+use Rattle.text.proofs.Stores.{sets-lead}
 
 no : {A : Type 0} → _≡_ {A = ℕ} 0 1 → A
 no e = absurd (omega arith)
+
+-- no numbers, and the list is as it came
+kept : (list : List ℤ) → list ≡ led-by [] list
+kept list = sets-lead [] list
 
 -- ---- behind the letter
 pub behind-one : (line : List ℕ) → length line ≡ 1 → behind line ≡ ok []
@@ -80,7 +85,7 @@ behind-leading (b ∷ c ∷ bs) zs e = go (eqb c 44) e
 
 -- ---- a path
 pub path-none : (closed : Bool) (t : Try (List ℤ)) (list : List ℤ) → counts.Unreadable ≡ counted 0 t → Asks (path-asked closed t) list Unreadable list
-path-none closed (refuse k) list e = record { is = refl; list-after = refl }
+path-none closed (refuse k) list e = record { is = refl; list-after = kept list }
 path-none closed (ok zs) list e = no (cc)
 
 pub path-read : (closed : Bool) (line : List ℕ) (list after : List ℤ) (k : ℕ) → Count k ≡ counted 0 (behind line) → after ≡ sets list 0 (leading-behind line)
@@ -91,7 +96,7 @@ path-read closed line list after k e a = go (behind line) refl e
     go (refuse n) p q = no (cc)
     go (ok zs) p q =
         let h : k ≡ 0 + length zs = cc in
-        record { is = ap (Path closed) (omega arith); list-after = a ∙ ap (sets list 0) (behind-leading line zs p) }
+        record { is = ap (Path closed) (omega arith); list-after = a ∙ ap (sets list 0) (behind-leading line zs p) ∙ sets-lead zs list }
 
 -- ---- the rectangle
 pub rectangle-none : (t : Try (List ℤ)) → counts.Unreadable ≡ counted 0 t → Unreadable ≡ answer (rectangle-asked t)
@@ -222,19 +227,19 @@ module _ (letter : ℕ) (t : Try (List ℤ)) where
       go (ok zs) = rw (ne-eqb letter 67 e, ne-eqb letter 76 g) refl
 
 pub nothing-asked : {q : Request} (list : List ℤ) → q ≡ unreadable → Asks q list Unreadable list
-nothing-asked list e = subst (λ (q : Request). Asks q list Unreadable list) (sym e) (record { is = refl; list-after = refl })
+nothing-asked list e = subst (λ (q : Request). Asks q list Unreadable list) (sym e) (record { is = refl; list-after = kept list })
 
 pub rectangle-asks : (t : Try (List ℤ)) (list : List ℤ) → Asks (rectangle-asked t) list (answer (rectangle-asked t)) list
-rectangle-asks (refuse n) list = record { is = refl; list-after = refl }
+rectangle-asks (refuse n) list = record { is = refl; list-after = kept list }
 rectangle-asks (ok zs) list = go zs
   where
     go : (zs : List ℤ) → Asks (rectangle-of zs) list (answer (rectangle-of zs)) list
-    go [] = record { is = refl; list-after = refl }
-    go (l ∷ []) = record { is = refl; list-after = refl }
-    go (l ∷ t ∷ []) = record { is = refl; list-after = refl }
-    go (l ∷ t ∷ r ∷ []) = record { is = refl; list-after = refl }
-    go (l ∷ t ∷ r ∷ b ∷ []) = record { is = refl; list-after = refl }
-    go (l ∷ t ∷ r ∷ b ∷ x ∷ more) = record { is = refl; list-after = refl }
+    go [] = record { is = refl; list-after = kept list }
+    go (l ∷ []) = record { is = refl; list-after = kept list }
+    go (l ∷ t ∷ []) = record { is = refl; list-after = kept list }
+    go (l ∷ t ∷ r ∷ []) = record { is = refl; list-after = kept list }
+    go (l ∷ t ∷ r ∷ b ∷ []) = record { is = refl; list-after = kept list }
+    go (l ∷ t ∷ r ∷ b ∷ x ∷ more) = record { is = refl; list-after = kept list }
 
 -- ---- the line's ways
 asks-by : {q p : Request} {list after : List ℤ} {r : Answer} → q ≡ p → Asks p list r after → Asks q list r after

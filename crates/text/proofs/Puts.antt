@@ -199,7 +199,7 @@ line-length letter xs ys =
     omega (arith, length-append (comma-numbers (xs ++ ys)) (10 ∷ []), ap length (comma-append xs ys), length-append (comma-numbers xs) (comma-numbers ys))
 
 pub written-none : (line out : List ℕ) → length out < length line → Written line out 0 out
-written-none line out h = record { count = rw (lt-leb _ _ h) refl; list-after = rw (lt-leb _ _ h) refl }
+written-none line out h = record { count = rw (lt-leb _ _ h) refl; list-after = rw (lt-leb _ _ h) refl; within = omega arith }
 
 pub written-all : {line out : List ℕ} {r : ℕ} {after : List ℕ} → length line ≤ length out → Put line 0 out r after → Written line out r after
 written-all {line} {out} h p =
@@ -207,6 +207,7 @@ written-all {line} {out} h p =
     record {
       count = p .ends ∙ n ∙ rw (le-leb (length line) (length out) h) refl;
       list-after = p .list-after ∙ sets-front line out h ∙ rw (le-leb (length line) (length out) h) refl;
+      within = omega (arith, p .ends, put-kept p);
     }
 
 -- a path's line, by its number and its count as they came

@@ -4,8 +4,8 @@ use mathlib.Core.List.{List, [], _∷_, _++_}
 use Prim.Native.Nat.{ℕ, zero, suc, _+_, _<_, _≤_}
 use native.Mathlib.Omega.{arith}
 use native.Mathlib.Numerals.{add-one}
-use lib.ListN.{length, drop, set, length-set, length-append}
-use lib.Seq.{sets, sets-eq, set-out, set-comm}
+use lib.ListN.{length, take, drop, set, length-set, length-append}
+use lib.Seq.{sets, sets-eq, set-out, set-comm, take-nil}
 
 module _ {A : Type 0} where
   pub sets-append : (xs ys l : List A) (i : ℕ) → sets l i (xs ++ ys) ≡ sets (sets l i xs) (i + length xs) ys
@@ -27,3 +27,13 @@ module _ {A : Type 0} where
   -- a whole run from the front
   pub sets-front : (xs l : List A) → length xs ≤ length l → sets l 0 xs ≡ xs ++ drop (length xs) l
   sets-front xs l h = let e : 0 + length xs ≡ length xs = omega arith in sets-eq xs l 0 (omega arith) ∙ ap (λ (k : ℕ). xs ++ drop k l) e
+
+  -- the same with what the list cannot hold left out
+  sets-shift : (y : A) (l : List A) (i : ℕ) (zs : List A) → sets (y ∷ l) (suc i) zs ≡ y ∷ sets l i zs
+  sets-shift y l i [] = refl
+  sets-shift y l i (z ∷ zs) = sets-shift y (set l i z) (suc i) zs
+
+  pub sets-lead : (zs l : List A) → sets l 0 zs ≡ take (length l) zs ++ drop (length zs) l
+  sets-lead [] l = ap (λ (k : List A). k ++ l) (sym (take-nil (length l)))
+  sets-lead (z ∷ zs) [] = sets-out zs [] 1 (omega arith)
+  sets-lead (z ∷ zs) (y ∷ l) = sets-shift z l 0 zs ∙ ap (λ (k : List A). z ∷ k) (sets-lead zs l)

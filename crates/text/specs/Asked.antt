@@ -2,11 +2,10 @@
 -- and those numbers at the front of the list, as many as it can hold.
 use mathlib.Core.Path.{_≡_}
 use mathlib.Core.Bool.{Bool}
-use mathlib.Core.List.{List, []}
+use mathlib.Core.List.{List, [], _++_}
 use Prim.Native.Nat.{ℕ}
 use lib.IntN.{ℤ}
-use lib.ListN.{length}
-use lib.Seq.{sets}
+use lib.ListN.{length, take, drop}
 use Rattle.text.specs.declared.reading.Request.{Request as Answer}
 use Rattle.text.specs.declared.reading.Request.the-variants.{Unreadable, Rectangle, Path}
 use Rattle.text.specs.Reading.{Request, unreadable, rectangle, path}
@@ -27,7 +26,10 @@ stored unreadable = []
 stored (rectangle r) = []
 stored (path closed zs) = zs
 
--- `sets list 0 zs`: the numbers one after another from the list's first entry on; those behind its end are left out
+-- the numbers in place of the list's leading entries, as many as it can hold, and the others as they came
+abbrev pub led-by : List ℤ → List ℤ → List ℤ
+led-by zs list = take (length list) zs ++ drop (length zs) list
+
 pub record Asks (asked : Request) (list : List ℤ) (r : Answer) (after : List ℤ) : Type 0 where
   pub is : r ≡ answer asked
-  pub list-after : after ≡ sets list 0 (stored asked)
+  pub list-after : after ≡ led-by (stored asked) list

@@ -2,7 +2,7 @@
 use mathlib.Core.Path.{_≡_, refl, ap}
 use mathlib.Core.Bool.{Bool, true, false}
 use mathlib.Core.List.{List, [], _∷_, _++_}
-use Prim.Native.Nat.{ℕ, _+_, _/_}
+use Prim.Native.Nat.{ℕ, _+_, _/_, _≤_}
 use lib.ListN.{length, drop}
 use lib.Dec.{leb}
 use lib.IntN.{ℤ, pos}
@@ -16,6 +16,7 @@ use Rattle.text.specs.Printing.{line-of, path-line}
 pub record Written (line out : List ℕ) (r : ℕ) (after : List ℕ) : Type 0 where
   pub count : r ≡ (if leb (length line) (length out) then length line else 0)
   pub list-after : after ≡ (if leb (length line) (length out) then line ++ drop (length line) out else out)
+  pub within : r ≤ length after
 
 -- a path's line from its coordinates
 abbrev pub coordinates-line : Bool → ℤ → List ℤ → List ℕ
