@@ -1,0 +1,95 @@
+-- `text::writing::write_line` meets its contract. Assumes nothing.
+use mathlib.Core.Path.{sym, _∙_}
+use mathlib.Core.List.{_++_}
+use Prim.Native.Nat.{_-_, _≤_}
+use native.Mathlib.Omega.{arith}
+use lib.ListN.{length}
+use Rattle.text.specs.Printing.{comma-numbers, line-of}
+use Rattle.text.proofs.Puts.{line-length, room-full-is, room-left-is, written-none, written-all}
+use borrow.Author.Needs.{needs}
+use Rattle.text.proofs.writing.write_line.Statement.{statement}
+use Rattle.text.proofs.writing.write_line.Tie as tie
+
+-- both lists fit behind the letter, with the line feed
+fits : (c : tie.After-enum-told2) → length (line-of (c .before .before .before .before .before .before .before .before .before .args .letter) (c .before .before .before .before .before .before .before .before .before .args .head .now ++ c .before .before .before .before .before .before .before .before .before .args .tail .now)) ≤ length (c .before .before .before .before .before .before .before .before .before .args .out .now)
+fits c =
+    let s : tie.Start = search in
+    let e : tie.Else1 = search in
+    let r : tie.After-room-after = search in
+    let k : tie.After-first = search in
+    let q : tie.After-room-after2 = search in
+    let f = room-left-is (length (s .args .out .now) - 2) (length (comma-numbers (s .args .head .now))) (sym (k .first .given .1) ∙ r .room-after .ensures) in
+    let g = room-left-is _ (length (comma-numbers (s .args .tail .now))) (sym (c .enum-told2 .given .1) ∙ q .room-after2 .ensures) in
+    omega (arith, line-length (s .args .letter) (s .args .head .now) (s .args .tail .now), e .if1 .left, f .fits, f .left, g .fits)
+
+returns : tie.Need-returns
+returns c =
+    let s : tie.Start = search in
+    written-none (line-of (s .args .letter) (s .args .head .now ++ s .args .tail .now)) (s .args .out .now) (omega (arith, line-length (s .args .letter) (s .args .head .now) (s .args .tail .now), c .if1 .taken))
+
+sub-room-after : tie.Need-sub-room-after
+sub-room-after c = search needs
+
+room-after-requires : tie.Need-room-after-requires
+room-after-requires c κs = search needs
+
+enum-known-first : tie.Need-enum-known-first
+enum-known-first c = search needs
+
+enum-told : tie.Need-enum-told
+enum-told c = search needs
+
+returns-2 : tie.Need-returns-2
+returns-2 c =
+    let s : tie.Start = search in
+    let r : tie.After-room-after = search in
+    let f = room-full-is (length (s .args .out .now) - 2) (length (comma-numbers (s .args .head .now))) (sym (c .enum-told .given .1) ∙ r .room-after .ensures) in
+    written-none (line-of (s .args .letter) (s .args .head .now ++ s .args .tail .now)) (s .args .out .now) (omega (arith, line-length (s .args .letter) (s .args .head .now) (s .args .tail .now), f))
+
+room-after-requires-2 : tie.Need-room-after-requires-2
+room-after-requires-2 c κs = search needs
+
+enum-told-2 : tie.Need-enum-told-2
+enum-told-2 c = search needs
+
+enum-told-3 : tie.Need-enum-told-3
+enum-told-3 c = search needs
+
+returns-3 : tie.Need-returns-3
+returns-3 c =
+    let s : tie.Start = search in
+    let r : tie.After-room-after = search in
+    let k : tie.After-first = search in
+    let q : tie.After-room-after2 = search in
+    let f = room-left-is (length (s .args .out .now) - 2) (length (comma-numbers (s .args .head .now))) (sym (k .first .given .1) ∙ r .room-after .ensures) in
+    let g = room-full-is _ (length (comma-numbers (s .args .tail .now))) (sym (c .enum-told3 .given .1) ∙ q .room-after2 .ensures) in
+    written-none (line-of (s .args .letter) (s .args .head .now ++ s .args .tail .now)) (s .args .out .now) (omega (arith, line-length (s .args .letter) (s .args .head .now) (s .args .tail .now), f .fits, f .left, g))
+
+put-line-requires : tie.Need-put-line-requires
+put-line-requires c κs = fits (c .before)
+
+same-length : tie.Need-same-length
+same-length c = search needs
+
+returns-4 : tie.Need-returns-4
+returns-4 c =
+    let t : tie.After-enum-told2 = search in
+    written-all (fits t) (c .before .before .put-line .ensures)
+
+pub write-line-spec : {M : Type 1} → statement M
+write-line-spec =
+    tie.close
+    (tie.spec
+    returns
+    sub-room-after
+    room-after-requires
+    enum-known-first
+    enum-told
+    returns-2
+    room-after-requires-2
+    enum-told-2
+    enum-told-3
+    returns-3
+    put-line-requires
+    same-length
+    returns-4)
