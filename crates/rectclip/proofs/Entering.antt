@@ -4,7 +4,7 @@ use mathlib.Core.Bool.{Bool, true, false, not, _||_}
 use mathlib.Core.List.{List, [], _∷_, _++_, map}
 use Prim.Native.Nat.{ℕ, zero, suc, _+_, _*_, _/_, _%_, _<_, _≤_}
 use native.Mathlib.Omega.{arith}
-use borrow.Author.Tests.{eq-eqb, ne-eqb, lt-ltb, le-ltb, ltb-false, le-leb, not-false}
+use borrow.Author.Tests.{eq-eqb, ne-eqb, eqb-false, lt-ltb, le-ltb, ltb-false, le-leb, not-false}
 use lib.Dec.{eqb, ltb, leb}
 use lib.IntN.{ℤ, pos}
 use lib.ListN.{length, take, drop, replicate, length-map, length-append}
@@ -70,8 +70,11 @@ module _ (W A work : ℕ) (rect : Rect64) (coords : List ℤ) where
 
 -- ---- what a call that they let through knows
 pub record Let (W A work : ℕ) (rect : Rect64) (coords : List ℤ) : Type 0 where
+  pub even : length coords % 2 ≡ 0
   pub few : W ≤ 65536
+  pub turns : A ≤ 65535
   pub cells : 16 * (W + A + 1) ≤ work
+  pub short : length coords / 2 ≤ 4096
   pub frame : rect-in-limit rect ≡ true
   pub points : all-in-limit coords ≡ true
 
@@ -89,7 +92,15 @@ let-through W A work rect coords e =
     let (f, e5) = if-zero (ltb 4096 (length coords / 2)) 4 _ e4 in
     let (g, e6) = if-zero (not (rect-in-limit rect)) 5 _ e5 in
     let (h, e7) = if-zero (not (all-in-limit coords)) 6 _ e6 in
-    record { few = ltb-false 65536 W b; cells = ltb-false work (16 * (W + A + 1)) d; frame = not-false _ g; points = not-false _ h }
+    record {
+      even = even-of (length coords) (eqb-false (length coords % 2) 1 a);
+      few = ltb-false 65536 W b;
+      turns = ltb-false 65535 A c;
+      cells = ltb-false work (16 * (W + A + 1)) d;
+      short = ltb-false 4096 (length coords / 2) f;
+      frame = not-false _ g;
+      points = not-false _ h;
+    }
 
 -- ---- the line clipper's drawing, by its cases
 module _ (rect : Rect64) (path : List ℤ) (W : ℕ) where
@@ -132,7 +143,7 @@ module _ (coordinates : List ℤ) (lengths : List ℕ) (store : List ℤ) (work 
 abbrev too-short : Lent → Drawing → Bool
 too-short l d = ltb (length (l .coordinates)) (length (coordinates-of (joined (d .0)))) || ltb (length (l .lengths)) (length (map length (d .0)))
 
-clears-store : (l : Lent) (d : Try Drawing) → answered l 0 d .lists .store ≡ replicate (length (l .store)) (pos 0)
+pub clears-store : (l : Lent) (d : Try Drawing) → answered l 0 d .lists .store ≡ replicate (length (l .store)) (pos 0)
 unfolding answered delivered
 clears-store l (refuse n) = refl
 clears-store l (ok x) = go (too-short l x) refl
@@ -141,7 +152,7 @@ clears-store l (ok x) = go (too-short l x) refl
     go true t = rw t refl
     go false t = rw t refl
 
-clears-work : (l : Lent) (d : Try Drawing) → answered l 0 d .lists .work ≡ replicate (length (l .work)) 0
+pub clears-work : (l : Lent) (d : Try Drawing) → answered l 0 d .lists .work ≡ replicate (length (l .work)) 0
 unfolding answered delivered
 clears-work l (refuse n) = refl
 clears-work l (ok x) = go (too-short l x) refl
@@ -151,16 +162,21 @@ clears-work l (ok x) = go (too-short l x) refl
     go false t = rw t refl
 
 -- ---- where the returned points come from
-module _ (rect : Rect64) (path : List ℤ) (hr : rect-in-limit rect ≡ true) (hp : all-in-limit path ≡ true) (W : ℕ) (l : Lent) (c : Counts) (after : Lent) where
-  from-paths : (paths : List (List Point64)) → execute-lines (no-room W) rect (points-of path) ≡ ok paths → outcome (answer.Drawn c) ≡ delivered l (paths, 0) .answer
-      → after .coordinates ≡ delivered l (paths, 0) .lists .coordinates → after .lengths ≡ delivered l (paths, 0) .lists .lengths → Returned false rect path c after
+-- these paths stand in the leading entries
+pub record Shown (c : Counts) (after : Lent) (paths : List (List Point64)) : Type 0 where
+  pub points : filled-part (after .coordinates) (c .points) ≡ coordinates-of (joined paths)
+  pub counts : take (c .paths) (after .lengths) ≡ map length paths
+
+module _ (l : Lent) (c : Counts) (after : Lent) where
+  pub shows : (d : Drawing) → outcome (answer.Drawn c) ≡ delivered l d .answer → after .coordinates ≡ delivered l d .lists .coordinates → after .lengths ≡ delivered l d .lists .lengths → Shown c after (d .0)
   unfolding delivered filled-part
-  from-paths paths e o ec el = go (too-short l (paths, 0)) refl
+  shows d o ec el = go (too-short l d) refl
     where
-      go : (b : Bool) → too-short l (paths, 0) ≡ b → Returned false rect path c after
+      go : (b : Bool) → too-short l d ≡ b → Shown c after (d .0)
       go true t = absurd (let z : outcome (answer.Drawn c) ≡ refused 11 = rw t at o in let y : _≡_ {A = ℕ} 0 1 = cc in omega arith)
       go false t =
-          let z : drawn (c .paths) (c .points) (c .turns) ≡ drawn (length paths) (length (joined paths)) 0 = rw t at o in
+          let paths = d .0 in
+          let z : drawn (c .paths) (c .points) (c .turns) ≡ drawn (length paths) (length (joined paths)) (d .1) = rw t at o in
           let n : c .paths ≡ length paths = cc in
           let m : c .points ≡ length (joined paths) = cc in
           let C = coordinates-of (joined paths) in
@@ -169,19 +185,25 @@ module _ (rect : Rect64) (path : List ℤ) (hr : rect-in-limit rect ≡ true) (h
           let g : after .lengths ≡ filled (map length paths) (l .lengths) = rw t at el in
           let long : 2 * c .points ≤ length (after .coordinates) = rw (f, filled-length C (l .coordinates), k) (omega arith) in
           record {
-            paths = paths;
             points = rw (le-leb (2 * c .points) (length (after .coordinates)) long, f) (take-at C (drop (length C) (l .coordinates)) (2 * c .points) (sym k));
             counts = rw g (take-at (map length paths) (drop (length (map length paths)) (l .lengths)) (c .paths) (length-map paths length ∙ sym n));
-            sourced = open-sourced rect path (T-of hr) (T-of hp) (no-room W) paths e;
           }
 
-  pub returns-sourced : {r : Answer} → r ≡ answer.Drawn c → Leaves (answered l 0 (line-drawing rect path W)) r (after .coordinates) (after .lengths) → Returned false rect path c after
+  -- a call that drew: its drawing, whose paths are shown
+  pub drew : (t : Try Drawing) {r : Answer} → r ≡ answer.Drawn c → Leaves (answered l 0 t) r (after .coordinates) (after .lengths) → (P : Type 0) → ((d : Drawing) → t ≡ ok d → Shown c after (d .0) → P) → P
   unfolding answered
-  returns-sourced er L = go (execute-lines (no-room W) rect (points-of path)) refl
-    where
-      go : (x : Try (List (List Point64))) → execute-lines (no-room W) rect (points-of path) ≡ x → Returned false rect path c after
-      go (refuse n) e = absurd (let z : outcome (answer.Drawn c) ≡ refused n = rw (er, e) at (L .answer) in let y : _≡_ {A = ℕ} 0 1 = cc in omega arith)
-      go (ok paths) e = from-paths paths e (rw (er, e) at (L .answer)) (rw e at (L .coords)) (rw e at (L .counts))
+  drew (refuse n) er L P k = absurd (let z : outcome (answer.Drawn c) ≡ refused n = rw er at (L .answer) in let y : _≡_ {A = ℕ} 0 1 = cc in omega arith)
+  drew (ok d) er L P k = k d refl (shows d (rw er at (L .answer)) (L .coords) (L .counts))
+
+module _ (rect : Rect64) (path : List ℤ) (hr : rect-in-limit rect ≡ true) (hp : all-in-limit path ≡ true) (W : ℕ) (l : Lent) (c : Counts) (after : Lent) where
+  drawn-lines : (t : Try (List (List Point64))) → execute-lines (no-room W) rect (points-of path) ≡ t → (d : Drawing) → (t >>= λ paths. ok (paths, 0)) ≡ ok d → Shown c after (d .0) → Returned false rect path c after
+  drawn-lines (refuse n) e d q s = absurd (let y : _≡_ {A = ℕ} 0 1 = cc in omega arith)
+  drawn-lines (ok paths) e d q s =
+      let z : d .0 ≡ paths = cc in
+      record { paths = d .0; points = s .points; counts = s .counts; sourced = open-sourced rect path (T-of hr) (T-of hp) (no-room W) (d .0) (rw z e) }
+
+  pub returns-sourced : {r : Answer} → r ≡ answer.Drawn c → Leaves (answered l 0 (line-drawing rect path W)) r (after .coordinates) (after .lengths) → Returned false rect path c after
+  returns-sourced er L = drew l c after (line-drawing rect path W) er L (Returned false rect path c after) (drawn-lines (execute-lines (no-room W) rect (points-of path)) refl)
 
 -- ---- the entry
 module _ (rect : Rect64) (path coordinates : List ℤ) (lengths : List ℕ) (store : List ℤ) (work : List ℕ) (k : Check) (ek : check-number k ≡ early-refusal (length store / 2) 0 (length work) rect path) where

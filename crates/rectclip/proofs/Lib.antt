@@ -62,3 +62,8 @@ pub mod EdgeLists
 pub mod Turns
 pub mod Executing
 pub mod Filling
+pub mod WalkedArena
+pub mod OutlineClips
+pub mod Handing
+pub mod ClosedEntry
+pub mod ClosedCall

@@ -27,7 +27,7 @@ pub struct RectClipLines64 {
 }
 
 // A result with no path.
-fn no_paths() -> Answer
+pub(crate) fn no_paths() -> Answer
     ensures { λ r. ⌜ r ≡ Answer.Drawn (record { paths = 0; points = 0; turns = 0 }) ⌝ }
 {
     Answer::Drawn(Counts {

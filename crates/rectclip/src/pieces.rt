@@ -49,7 +49,7 @@ pub(crate) fn count_pieces(store: &[i64], work: &[u32], s: WalkState) -> Tally
 }
 
 // Points `from` to `to` of the store are copied to place `at` of a list.
-fn copy_points(store: &[i64], from: usize, to: usize, list: &mut [i64], at: usize)
+pub(crate) fn copy_points(store: &[i64], from: usize, to: usize, list: &mut [i64], at: usize)
     requires { ⌜ Copies (now store) (now list) from to at ⌝ }
     ensures { λ _. ⌜ Copied (now (store .entry)) from to at (now (list .entry)) (now (list .exit)) ⌝ }
 {
