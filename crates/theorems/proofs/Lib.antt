@@ -64,6 +64,7 @@ pub mod WalkEnters
 pub mod Entering
 pub mod ClosedArea
 pub mod ClipEnds
+pub mod Rings
 pub mod Copied
 pub mod FewResults
 pub mod FewPoints

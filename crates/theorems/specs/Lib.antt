@@ -3,3 +3,4 @@ pub mod Demand
 pub mod Bounds
 pub mod LoopsEnd
 pub mod Sizes
+pub mod Rings
