@@ -8,32 +8,38 @@ use Prim.Native.Nat.{ℕ, zero, suc, _+_, _-_, _<_, _≤_}
 use native.Mathlib.Omega.{arith}
 use native.Mathlib.Decide.{decLt}
 use lib.ListN.{length}
-use lib.Dec.{leb, leb→le, nleb→lt, ltb→lt}
+use lib.Dec.{leb, ltb, leb→le, nleb→lt, ltb→lt}
 use Rattle.integers.specs.Tests.{T-of, T-not-of}
 use Rattle.plane.specs.declared.point.Point64.{Point64}
 use Rattle.plane.specs.Limit.{Limited}
 use Rattle.plane.specs.declared.rect.Rect64.{Rect64}
 use Rattle.plane.specs.declared.location.Location.{Location}
-use Rattle.plane.specs.declared.location.Location.the-variants.{Inside}
-use Rattle.plane.specs.Basics.{if_then_else_}
+use Rattle.plane.specs.declared.location.Location.the-variants.{Left, Top, Right, Bottom, Inside}
+use Rattle.plane.specs.Basics.{if_then_else_, Try, _>>=_}
 use Rattle.plane.specs.Points.{origin, pt-at, points-of}
 use Rattle.plane.specs.Locations.{same-location, is-inside, get-adjacent-location}
 use Rattle.plane.specs.Rectangle.{mid-point, get-location}
 use Rattle.plane.specs.Intersection.{get-intersection}
 use Rattle.plane.specs.Signs.{is-clockwise-dir}
-use Rattle.reference.specs.Walk.{Walk, push-start-locs, add-corners, Next, get-next-location, State, remain-outside, pt-before, pass-from}
-use Rattle.theorems.specs.CornerLoops.{Arrives, GoesRound, PassEnds, pass-of, PassesEnd, WhileEnds, WalkCornersEnd, CornerLoopsEnd}
-use Rattle.theorems.proofs.Holds.{Holds, held, bind, either, by-search, All, all-at, weaker, anything, holds-ok}
+use Rattle.reference.specs.Walk.{Walk, push-start-locs, add-corners, Next, get-next-location, State, remain-outside, pt-before, pass-from, passes}
+use Rattle.theorems.specs.CornerLoops.{Arrives, GoesRound, PassEnds, pass-of, PassesEnd, begun, WhileEnds, WalkCornersEnd, CornerLoopsEnd}
+use Rattle.theorems.proofs.Holds.{Holds, refused, held, bind, either, by-search, All, all-at, weaker, anything, holds-ok}
 use Rattle.theorems.proofs.Demand.{LimitedRect, rect-limited, points-limited, not-empty-order}
 use Rattle.theorems.proofs.GeoPlane.{Proper}
-use Rattle.theorems.proofs.GeoProgress.{In, Stop, enters, passes as crosses, leaves, edge-closed}
+use Rattle.theorems.proofs.GeoWalk.{located, inside?}
+use Rattle.theorems.proofs.GeoProgress.{In, Stop, enters, passes as crosses, leaves, located-in, edge-closed}
 use Rattle.theorems.proofs.NextPoints.{Reached, reached}
-use Rattle.theorems.proofs.Passes.{stop-in, sides-out, Stays, cross-stays, before-limited, get-location-in}
+use Rattle.theorems.proofs.Passes.{stop-in, sides-out, Stays, cross-stays, before-limited, get-location-is, get-location-in}
 use Rattle.theorems.proofs.Corners.{meets, four}
 use Rattle.theorems.proofs.FirstCrossing.{found-side}
 use Rattle.theorems.proofs.Ninth.{missed-sides, on-edge-of}
 use Rattle.theorems.proofs.Fold.{before-is}
+use Rattle.theorems.proofs.StartSides.{Sides, SidesIn, next-sides, remain-sides, cross-sides}
 use Rattle.theorems.proofs.Tests.{never}
+
+together : {A : Type 0} {Q R : A → Type 0} (m : Try A) → Holds Q m → Holds R m → Holds (λ (a : A). Q a × R a) m
+together m refused h = refused
+together m (held q) (held h) = held (q, h)
 
 -- ---- from a side to a side
 arrived : (n : ℕ) (p loc : Location) (cw : Bool) → meets n p loc cw ≡ true → Arrives n p loc cw
@@ -53,6 +59,19 @@ enters-from : (r : Rect64) (p : Point64) (l l′ : Location) → Stop r p l l′
 enters-from r p l l′ (enters s i inner) e = sides-out s
 enters-from r p l l′ (crosses s t i b) e = never e (sides-out t)
 enters-from r p l l′ (leaves t n) e = never e (sides-out t)
+
+-- one that goes from a side to a side comes to a point outside
+beyond-out : (r : Rect64) (p : Point64) (l l′ : Location) → Stop r p l l′ → is-inside l′ ≡ false → is-inside l ≡ false → is-inside (get-location r p .loc) ≡ false
+beyond-out r p l l′ (enters s i inner) o b = never refl o
+beyond-out r p l l′ (leaves t n) o b = never refl b
+beyond-out r p l l′ (crosses s t i b′) o b = ap is-inside (get-location-is r p) ∙ same (located r p) (located-in r p .1 (record { side = t; beyond = b′ }))
+  where
+    same : (l : Location) → inside? l ≡ false → is-inside l ≡ false
+    same Left e = refl
+    same Top e = refl
+    same Right e = refl
+    same Bottom e = refl
+    same Inside e = never refl e
 
 module _ (full : ℕ → Bool) (r : Rect64) (path : List Point64) (lr : LimitedRect r) (k : Proper r) (lim : All Limited path) where
   -- The point before is in the location's region, or the point itself is, behind a crossing: then it will be gone past.
@@ -83,6 +102,7 @@ module _ (full : ℕ → Bool) (r : Rect64) (path : List Point64) (lr : LimitedR
           outside = λ e.
               let b = missed-sides r lr k p q (all-at Limited path (nx .i) origin lim l) (before-limited full r path lr k lim (nx .i) l) (s .loc) (nx .loc) (R .stopped l) (came s nx h R) e in
               goes-round (s .loc) (nx .loc) _ (b .0) (b .1);
+          passing = λ ip ip2 t t2 e o b f. (found-side r p q ip t (nx .loc) e, (found-side r q p ip2 t2 (s .loc) f, (beyond-out r p (s .loc) (nx .loc) (R .stopped l) o b, tt)));
           entering = λ ip t e i. goes-round (s .loc) t _ (enters-from r p (s .loc) (nx .loc) (R .stopped l) i) (found-side r p q ip t (nx .loc) e);
         }
 
@@ -122,8 +142,38 @@ module _ (full : ℕ → Bool) (r : Rect64) (path : List Point64) (lr : LimitedR
         (λ t f. passes-corners n t (holds-ok {Q = λ (t : State). t .i < length path → Placed t} (pass-from full r path s nx) t (pass-placed s nx (h l) R) f)),
       )
 
+  -- ---- the start sides
+  pass-noted : (s : State) (nx : Next) → Placed s → Reached full r path (s .loc) (s .i) nx → Sides (nx .walk) → Holds SidesIn (pass-from full r path s nx)
+  unfolding pass-from
+  pass-noted s nx h R k′ =
+      let c = pass-of full r path s nx in
+      either SidesIn (leb (length path) (nx .i)) _ _ (λ e. held k′)
+      (λ e. let l : nx .i < length path = nleb→lt (length path) (nx .i) (T-not-of e) in
+      by-search SidesIn (get-intersection r (pt-at path (nx .i)) (pt-before path (nx .i)) (nx .loc)) _ _
+      (λ f. remain-sides full r c k′ (pass-ends s nx h R l .outside f .from-side))
+      (λ ip t f. cross-sides full r c ip t k′ (λ i. pass-ends s nx h R l .entering ip t f i .from-side)))
+
+  noted : (n : ℕ) (s : State) → (s .i < length path → Placed s) → SidesIn s → Holds SidesIn (passes full r path n s)
+  unfolding passes
+  noted zero s h m = held m
+  noted (suc n) s h m =
+      either SidesIn (ltb (s .i) (length path)) _ _
+      (λ e. let l : s .i < length path = ltb→lt (s .i) (length path) (T-of e) in
+      bind Q SidesIn (get-next-location full r path (s .walk) (s .loc) (s .i) >>= pass-from full r path s) _
+      (bind (λ (nx : Next). Reached full r path (s .loc) (s .i) nx × Sides (nx .walk)) Q (get-next-location full r path (s .walk) (s .loc) (s .i)) _
+      (together _ (reached full r path (s .walk) (s .loc) (s .i) l) (next-sides full r path (s .walk) (s .loc) (s .i) m))
+      (λ nx g. together _ (pass-placed s nx (h l) (g .0)) (pass-noted s nx (h l) (g .0) (g .1))))
+      (λ t g. noted n t (g .0) (g .1)))
+      (λ e. held m)
+    where
+      Q : State → Type 0
+      Q t = (t .i < length path → Placed t) × SidesIn t
+
   while-ends : (l : Location) → In r l (pt-at path (length path - 1)) → WhileEnds full r path l
-  while-ends l i = passes-corners (length path + 1) _ (λ _. inl i)
+  while-ends l i = record {
+    each-pass = passes-corners (length path + 1) _ (λ _. inl i);
+    closing = λ s e. holds-ok {Q = SidesIn} _ s (noted (length path + 1) (begun full r path l) (λ _. inl i) tt) e;
+  }
 
   pub walk-corners-end : WalkCornersEnd full r path
   walk-corners-end = record {

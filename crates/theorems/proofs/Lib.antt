@@ -63,6 +63,7 @@ pub mod FirstCrossing
 pub mod WalkEnters
 pub mod Entering
 pub mod ClosedArea
+pub mod StartSides
 pub mod CornerLoops
 pub mod ClipEnds
 pub mod Rings

@@ -1,9 +1,9 @@
 -- The closed walk's two loops round the corners, `add-corners` and `push-start-locs`, wherever a call comes to them: each goes from a side to a
--- side and has ended within its count. Statements only, pass by pass along the definition. Behind the `while` no corner is counted.
+-- side and has ended within its count. And no other corner is put down at Inside, which has none. Statements only, pass by pass along the definition.
 use mathlib.Core.Path.{_≡_}
 use mathlib.Core.Bool.{Bool, true, false}
 use mathlib.Core.Logic.{_⊎_}
-use mathlib.Core.List.{List}
+use mathlib.Core.List.{List, [], _∷_}
 use Prim.Native.Nat.{ℕ, zero, suc, _-_}
 use lib.ListN.{length}
 use lib.Dec.{T, ltb, leb}
@@ -21,7 +21,7 @@ use Rattle.plane.specs.Intersection.{get-intersection}
 use Rattle.plane.specs.Signs.{is-clockwise-dir}
 use Rattle.plane.specs.Limit.{rect-in-limit, all-in-limit}
 use Rattle.reference.specs.Counts.{corner-steps, walk-passes}
-use Rattle.reference.specs.Walk.{nothing-yet, Next, get-next-location, State, Pass, last-off, pt-before, pass-from}
+use Rattle.reference.specs.Walk.{nothing-yet, Next, get-next-location, State, Pass, last-off, pt-before, pass-from, passes}
 
 -- from p, one of the first n steps comes to loc, where both loops end
 abbrev pub Arrives : ℕ → Location → Location → Bool → Type 0
@@ -33,13 +33,20 @@ pub record GoesRound (p loc : Location) (is-clockwise : Bool) : Type 0 where
   pub to-side : is-inside loc ≡ false
   pub arrives : Arrives corner-steps p loc is-clockwise
 
--- ---- the loops of one pass
+abbrev pub AllSides : List Location → Type 0
+AllSides [] = Unit {0}
+AllSides (l ∷ ls) = (is-inside l ≡ false) × AllSides ls
+
+-- ---- one pass
 pub record PassEnds (rect : Rect64) (c : Pass) : Type 0 where
   -- "remaining outside": start sides or corners, up to the new location
   pub outside : get-intersection rect (c .pt) (c .prev-pt) (c .loc) ≡ Missed → GoesRound (c .prev) (c .loc) (is-clockwise-dir (c .prev) (c .loc) (c .prev-pt) (c .pt) (mid-point rect))
   -- "path must be entering rect": corners up to the side of the crossing
   pub entering : (ip : Point64) (s : Location) → get-intersection rect (c .pt) (c .prev-pt) (c .loc) ≡ Found ip s → is-inside (c .loc) ≡ true
       → GoesRound (c .prev) s (is-clockwise-dir (c .prev) s (c .prev-pt) (c .pt) (mid-point rect))
+  -- "passing right through rect": no loop; its corners are those of the two crossings' sides and of the point's location
+  pub passing : (ip ip2 : Point64) (s s2 : Location) → get-intersection rect (c .pt) (c .prev-pt) (c .loc) ≡ Found ip s → is-inside (c .loc) ≡ false → is-inside (c .prev) ≡ false
+      → get-intersection rect (c .prev-pt) (c .pt) (c .prev) ≡ Found ip2 s2 → AllSides (s ∷ s2 ∷ get-location rect (c .pt) .loc ∷ [])
 
 module _ (full : ℕ → Bool) (rect : Rect64) (path : List Point64) where
   -- the pass behind `get_next_location`, as in `pass-from`
@@ -54,8 +61,13 @@ module _ (full : ℕ → Bool) (rect : Rect64) (path : List Point64) where
       → (leb (length path) (nx .i) ≡ false → PassEnds rect (pass-of s nx)) × ((t : State) → pass-from full rect path s nx ≡ ok t → PassesEnd left t)
 
   -- the walk's `while` from a location on
-  abbrev pub WhileEnds : Location → Type 0
-  WhileEnds loc = PassesEnd (walk-passes (length path)) (record { walk = nothing-yet; i = 0; loc = loc; crossing-loc = Inside; first-cross = Inside })
+  abbrev pub begun : Location → State
+  begun loc = record { walk = nothing-yet; i = 0; loc = loc; crossing-loc = Inside; first-cross = Inside }
+
+  pub record WhileEnds (loc : Location) : Type 0 where
+    pub each-pass : PassesEnd (walk-passes (length path)) (begun loc)
+    -- the corners behind it go, without a count, from its location along the start sides to the first crossing's side; the two are tested
+    pub closing : (s : State) → passes full rect path (walk-passes (length path)) (begun loc) ≡ ok s → AllSides (s .walk .start-locs)
 
   -- from each of the two locations where `walk-closed` starts it
   pub record WalkCornersEnd : Type 0 where
