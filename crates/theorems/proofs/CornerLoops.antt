@@ -15,7 +15,7 @@ use Rattle.plane.specs.Limit.{Limited}
 use Rattle.plane.specs.declared.rect.Rect64.{Rect64}
 use Rattle.plane.specs.declared.location.Location.{Location}
 use Rattle.plane.specs.declared.location.Location.the-variants.{Left, Top, Right, Bottom, Inside}
-use Rattle.plane.specs.Basics.{if_then_else_, Try, _>>=_}
+use Rattle.plane.specs.Basics.{if_then_else_, _>>=_}
 use Rattle.plane.specs.Points.{origin, pt-at, points-of}
 use Rattle.plane.specs.Locations.{same-location, is-inside, get-adjacent-location}
 use Rattle.plane.specs.Rectangle.{mid-point, get-location}
@@ -23,7 +23,7 @@ use Rattle.plane.specs.Intersection.{get-intersection}
 use Rattle.plane.specs.Signs.{is-clockwise-dir}
 use Rattle.reference.specs.Walk.{Walk, push-start-locs, add-corners, Next, get-next-location, State, remain-outside, pt-before, pass-from, passes}
 use Rattle.theorems.specs.CornerLoops.{Arrives, GoesRound, PassEnds, pass-of, PassesEnd, begun, WhileEnds, WalkCornersEnd, CornerLoopsEnd}
-use Rattle.theorems.proofs.Holds.{Holds, refused, held, bind, either, by-search, All, all-at, weaker, anything, holds-ok}
+use Rattle.theorems.proofs.Holds.{Holds, held, bind, holds-both, either, by-search, All, all-at, weaker, anything, holds-ok}
 use Rattle.theorems.proofs.Demand.{LimitedRect, rect-limited, points-limited, not-empty-order}
 use Rattle.theorems.proofs.GeoPlane.{Proper}
 use Rattle.theorems.proofs.GeoWalk.{located, inside?}
@@ -36,10 +36,6 @@ use Rattle.theorems.proofs.Ninth.{missed-sides, on-edge-of}
 use Rattle.theorems.proofs.Fold.{before-is}
 use Rattle.theorems.proofs.StartSides.{Sides, SidesIn, next-sides, remain-sides, cross-sides}
 use Rattle.theorems.proofs.Tests.{never}
-
-together : {A : Type 0} {Q R : A → Type 0} (m : Try A) → Holds Q m → Holds R m → Holds (λ (a : A). Q a × R a) m
-together m refused h = refused
-together m (held q) (held h) = held (q, h)
 
 -- ---- from a side to a side
 arrived : (n : ℕ) (p loc : Location) (cw : Bool) → meets n p loc cw ≡ true → Arrives n p loc cw
@@ -161,8 +157,8 @@ module _ (full : ℕ → Bool) (r : Rect64) (path : List Point64) (lr : LimitedR
       (λ e. let l : s .i < length path = ltb→lt (s .i) (length path) (T-of e) in
       bind Q SidesIn (get-next-location full r path (s .walk) (s .loc) (s .i) >>= pass-from full r path s) _
       (bind (λ (nx : Next). Reached full r path (s .loc) (s .i) nx × Sides (nx .walk)) Q (get-next-location full r path (s .walk) (s .loc) (s .i)) _
-      (together _ (reached full r path (s .walk) (s .loc) (s .i) l) (next-sides full r path (s .walk) (s .loc) (s .i) m))
-      (λ nx g. together _ (pass-placed s nx (h l) (g .0)) (pass-noted s nx (h l) (g .0) (g .1))))
+      (holds-both (reached full r path (s .walk) (s .loc) (s .i) l) (next-sides full r path (s .walk) (s .loc) (s .i) m))
+      (λ nx g. holds-both (pass-placed s nx (h l) (g .0)) (pass-noted s nx (h l) (g .0) (g .1))))
       (λ t g. noted n t (g .0) (g .1)))
       (λ e. held m)
     where

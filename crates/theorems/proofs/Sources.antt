@@ -14,7 +14,6 @@ use Rattle.plane.specs.declared.location.Spot.{Spot}
 use Rattle.plane.specs.declared.location.Location.{Location}
 use Rattle.plane.specs.declared.location.Location.the-variants.{Left, Top, Right, Bottom, Inside}
 use Rattle.plane.specs.declared.crossing.Search.the-variants.{Found}
-use Rattle.plane.specs.Basics.{Try, refuse, ok}
 use Rattle.plane.specs.Points.{pt-at, origin}
 use Rattle.plane.specs.Rectangle.{as-path, get-location, is-empty, intersects, contains-rect, get-bounds-path, corner}
 use Rattle.plane.specs.Intersection.{get-intersection}
@@ -23,7 +22,7 @@ use Rattle.plane.specs.Locations.{is-inside}
 use Rattle.reference.specs.Clip.{execute}
 use Rattle.reference.specs.Lines.{execute-lines}
 use Rattle.theorems.specs.Demand.{ExactCrossing, NearTo, InOrOn, Segment, onward, closing, turned, Source, input-point, corner-point, crossing}
-use Rattle.theorems.proofs.Holds.{Holds, refused, held, bind, either, All, all-of}
+use Rattle.theorems.proofs.Holds.{Holds, held, bind, holds-both, either, All, all-of}
 use Rattle.theorems.proofs.Points.{WithinSides, all-keeping, walked-kept}
 use Rattle.theorems.proofs.Returned.{EnteredWithPoints, walked-entered, AllPaths, KeptPaths, clip-kept}
 use Rattle.theorems.proofs.OnEdge.{on-edge, contained}
@@ -63,10 +62,6 @@ inner r p =
 true-of : (b : Bool) → T b → b ≡ true
 true-of true h = refl
 true-of false h = absurd h
-
-holds-both : {A : Type 0} {Q R : A → Type 0} {m : Try A} → Holds Q m → Holds R m → Holds (λ a. Q a × R a) m
-holds-both {m = refuse n} h k = refused
-holds-both {Q} {R} {m = ok a} (held h) (held k) = held (h, k)
 
 module _ (closed : Bool) (r : Rect64) (path : List Point64) (searches : (a b : Point64) → Segment closed path a b → Searches r a b) where
   abbrev From : Point64 → Type 0
