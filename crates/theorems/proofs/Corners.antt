@@ -11,16 +11,14 @@ use Rattle.plane.specs.Locations.{same-location, get-adjacent-location, is-insi
 use Rattle.plane.specs.Rectangle.{corner}
 use Rattle.reference.specs.Walk.{Walk, add, push-start-loc, add-corner-loc, add-corners, push-start-locs}
 use Rattle.theorems.specs.Bounds.{CornersEnd, StartLocsEnd}
-
-never : {W : Type 0} → true ≡ false → W
-never e = let z : _≡_ {A = ℕ} 0 1 = cc in absurd (omega arith)
+use Rattle.theorems.proofs.Tests.{never}
 
 -- loc is met within n steps from p
-abbrev meets : ℕ → Location → Location → Bool → Bool
+abbrev pub meets : ℕ → Location → Location → Bool → Bool
 meets zero p loc cw = false
 meets (suc n) p loc cw = let rest = meets n (get-adjacent-location p cw) loc cw in same-location (get-adjacent-location p cw) loc || rest
 
-four : (k : ℕ) (p loc : Location) (cw : Bool) → is-inside loc ≡ false → meets (suc (suc (suc (suc k)))) p loc cw ≡ true
+pub four : (k : ℕ) (p loc : Location) (cw : Bool) → is-inside loc ≡ false → meets (suc (suc (suc (suc k)))) p loc cw ≡ true
 four k Left Left true e = refl
 four k Left Left false e = refl
 four k Left Top true e = refl
@@ -29,8 +27,8 @@ four k Left Right true e = refl
 four k Left Right false e = refl
 four k Left Bottom true e = refl
 four k Left Bottom false e = refl
-four k Left Inside true e = never e
-four k Left Inside false e = never e
+four k Left Inside true e = never refl e
+four k Left Inside false e = never refl e
 four k Top Left true e = refl
 four k Top Left false e = refl
 four k Top Top true e = refl
@@ -39,8 +37,8 @@ four k Top Right true e = refl
 four k Top Right false e = refl
 four k Top Bottom true e = refl
 four k Top Bottom false e = refl
-four k Top Inside true e = never e
-four k Top Inside false e = never e
+four k Top Inside true e = never refl e
+four k Top Inside false e = never refl e
 four k Right Left true e = refl
 four k Right Left false e = refl
 four k Right Top true e = refl
@@ -49,8 +47,8 @@ four k Right Right true e = refl
 four k Right Right false e = refl
 four k Right Bottom true e = refl
 four k Right Bottom false e = refl
-four k Right Inside true e = never e
-four k Right Inside false e = never e
+four k Right Inside true e = never refl e
+four k Right Inside false e = never refl e
 four k Bottom Left true e = refl
 four k Bottom Left false e = refl
 four k Bottom Top true e = refl
@@ -59,8 +57,8 @@ four k Bottom Right true e = refl
 four k Bottom Right false e = refl
 four k Bottom Bottom true e = refl
 four k Bottom Bottom false e = refl
-four k Bottom Inside true e = never e
-four k Bottom Inside false e = never e
+four k Bottom Inside true e = never refl e
+four k Bottom Inside false e = never refl e
 four k Inside Left true e = refl
 four k Inside Left false e = refl
 four k Inside Top true e = refl
@@ -69,15 +67,15 @@ four k Inside Right true e = refl
 four k Inside Right false e = refl
 four k Inside Bottom true e = refl
 four k Inside Bottom false e = refl
-four k Inside Inside true e = never e
-four k Inside Inside false e = never e
+four k Inside Inside true e = never refl e
+four k Inside Inside false e = never refl e
 
 -- a loop that does `act` at a location, moves on, and stops at loc
 module _ (act : Walk → Location → Try Walk) (loc : Location) (cw : Bool) (loop : ℕ → Walk → Location → Try Walk)
     (again : (n : ℕ) (w : Walk) (p : Location) → loop (suc n) w p ≡ (act w p >>= λ v. cond (same-location (get-adjacent-location p cw) loc) (ok v) (loop n v (get-adjacent-location p cw)))) where
   same : (m n : ℕ) (w : Walk) (p : Location) → meets m p loc cw ≡ true → meets n p loc cw ≡ true → loop m w p ≡ loop n w p
-  same zero n w p h k = never (sym h)
-  same (suc m) zero w p h k = never (sym k)
+  same zero n w p h k = never h refl
+  same (suc m) zero w p h k = never k refl
   same (suc m) (suc n) w p h k =
       again m w p ∙ ap (λ (f : Walk → Try Walk). act w p >>= f) (fun-ext (λ v. go (same-location (get-adjacent-location p cw) loc) v h k (same m n v (get-adjacent-location p cw)))) ∙ sym (again n w p)
     where

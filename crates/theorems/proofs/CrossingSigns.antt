@@ -16,9 +16,7 @@ use Rattle.rounding.specs.Coordinate.{exact, Near, Crosses, isNegative}
 use Rattle.rounding.proofs.Exact.{none}
 use Rattle.rounding.proofs.Along.{at-least, at-most}
 use Rattle.theorems.specs.Demand.{Between}
-
-pub never : {W : Type 0} → true ≡ false → W
-never e = let z : _≡_ {A = ℕ} 0 1 = cc in absurd (omega arith)
+use Rattle.theorems.proofs.Tests.{never}
 
 -- ---- signs
 pos-facts : (z : ℤ) → pos 0 <ℤ z → (0 < natAbs z) × (isNegative z ≡ false)
@@ -39,8 +37,8 @@ pub sgn-zero : (ab cd : ℤ) → eqZ (sgn ab cd) (pos 0) ≡ true → ab ≡ cd
 sgn-zero ab cd = go (ltZ cd ab) refl (ltZ ab cd) refl
   where
     go : (s : Bool) → ltZ cd ab ≡ s → (t : Bool) → ltZ ab cd ≡ t → eqZ (cond s (pos 1) (cond t (negsuc 0) (pos 0))) (pos 0) ≡ true → ab ≡ cd
-    go true p t q e = never (sym e)
-    go false p true q e = never (sym e)
+    go true p t q e = never e refl
+    go false p true q e = never e refl
     go false p false q e = omega ztest
 
 pub sgn-facts : (ab cd : ℤ) → eqZ (sgn ab cd) (pos 0) ≡ false → (0 < natAbs (ab -ℤ cd)) × (ltZ (pos 0) (sgn ab cd) ≡ not (isNegative (ab -ℤ cd)))
@@ -50,24 +48,24 @@ sgn-facts ab cd = go (ltZ cd ab) refl (ltZ ab cd) refl
         → (0 < natAbs (ab -ℤ cd)) × (ltZ (pos 0) (cond s (pos 1) (cond t (negsuc 0) (pos 0))) ≡ not (isNegative (ab -ℤ cd)))
     go true p t q e = let f = pos-facts (ab -ℤ cd) (ltZ-true (ltZ-sub cd ab ∙ p)) in (f .0, sym (ap not (f .1)))
     go false p true q e = let f = neg-facts (ab -ℤ cd) (ltZ-true (ltZ-sub′ cd ab ∙ q)) in (f .0, sym (ap not (f .1)))
-    go false p false q e = never e
+    go false p false q e = never refl e
 
 -- two signs that differ
 pub differ : (x y s t : Bool) → Bool·beq x y ≡ false → x ≡ not s → y ≡ not t → s ≡ not t
-differ true true s t e f g = never e
+differ true true s t e f g = never refl e
 differ true false s true e f g = flip s f
   where
     flip : (s : Bool) → true ≡ not s → s ≡ false
-    flip true f = never f
+    flip true f = never refl f
     flip false f = refl
-differ true false s false e f g = never (sym g)
-differ false true s true e f g = never g
+differ true false s false e f g = never g refl
+differ false true s true e f g = never refl g
 differ false true s false e f g = flip s f
   where
     flip : (s : Bool) → false ≡ not s → s ≡ true
     flip true f = refl
-    flip false f = never (sym f)
-differ false false s t e f g = never e
+    flip false f = never f refl
+differ false false s t e f g = never refl e
 
 -- ---- coordinates
 not-zero : (z : ℤ) → (z ≡ pos 0 → ⊥) → 0 < natAbs z
@@ -194,8 +192,8 @@ along-edge y v w lo hi l e = go (ltZ v y) refl (ltZ y w) refl e
     go true p true q (inr e) b = let a = e .0 in let c = e .1 in (omega ztest, omega ztest)
     go false p false q (inl e) b = let a = e .0 in let c = e .1 in (omega ztest, omega ztest)
     go false p false q (inr e) b = let a = e .0 in let c = e .1 in (omega ztest, omega ztest)
-    go true p false q e b = never (sym b)
-    go false p true q e b = never (sym b)
+    go true p false q e b = never b refl
+    go false p true q e b = never b refl
 
 -- ---- the same signs, turned round
 pub sgn-facts′ : (ab cd : ℤ) → eqZ (sgn ab cd) (pos 0) ≡ false → (0 < natAbs (cd -ℤ ab)) × (ltZ (pos 0) (sgn ab cd) ≡ isNegative (cd -ℤ ab))
@@ -205,26 +203,26 @@ sgn-facts′ ab cd = go (ltZ cd ab) refl (ltZ ab cd) refl
         → (0 < natAbs (cd -ℤ ab)) × (ltZ (pos 0) (cond s (pos 1) (cond t (negsuc 0) (pos 0))) ≡ isNegative (cd -ℤ ab))
     go true p t q e = let f = neg-facts (cd -ℤ ab) (ltZ-true (ltZ-sub′ ab cd ∙ p)) in (f .0, sym (f .1))
     go false p true q e = let f = pos-facts (cd -ℤ ab) (ltZ-true (ltZ-sub ab cd ∙ q)) in (f .0, sym (f .1))
-    go false p false q e = never e
+    go false p false q e = never refl e
 
 -- the second sign is not the first
 pub differ-back : (x y s t : Bool) → Bool·beq x y ≡ false → x ≡ not s → y ≡ not t → t ≡ not s
 differ-back x y s t e f g = swap s t (differ x y s t e f g)
   where
     swap : (s t : Bool) → s ≡ not t → t ≡ not s
-    swap true true e = never e
+    swap true true e = never refl e
     swap true false e = refl
     swap false true e = refl
-    swap false false e = never (sym e)
+    swap false false e = never e refl
 
 pub unlike-plain : (x y s t : Bool) → Bool·beq x y ≡ false → x ≡ s → y ≡ t → t ≡ not s
-unlike-plain true true s t e f g = never e
+unlike-plain true true s t e f g = never refl e
 unlike-plain true false s t e f g = sym g ∙ ap not f
 unlike-plain false true s t e f g = sym g ∙ ap not f
-unlike-plain false false s t e f g = never e
+unlike-plain false false s t e f g = never refl e
 
 pub unlike-first : (x y s t : Bool) → Bool·beq x y ≡ false → x ≡ s → y ≡ t → s ≡ not t
-unlike-first true true s t e f g = never e
+unlike-first true true s t e f g = never refl e
 unlike-first true false s t e f g = sym f ∙ ap not g
 unlike-first false true s t e f g = sym f ∙ ap not g
-unlike-first false false s t e f g = never e
+unlike-first false false s t e f g = never refl e

@@ -26,7 +26,8 @@ use Rattle.plane.specs.declared.crossing.Search.the-variants.{Missed, Found}
 use Rattle.plane.specs.Points.{same-point}
 use Rattle.plane.specs.Signs.{cross-product-sign, is-horizontal}
 use Rattle.plane.specs.Intersection.{at-end, get-segment-intersection, met}
-use Rattle.theorems.proofs.CrossingSigns.{never, sgn-zero, sgn-facts, differ, NearBy, apart, at-start, at-finish, crosses-between, Ends, ordered, along-edge, sgn-facts′, differ-back, unlike-plain, unlike-first}
+use Rattle.theorems.proofs.Tests.{never}
+use Rattle.theorems.proofs.CrossingSigns.{sgn-zero, sgn-facts, differ, NearBy, apart, at-start, at-finish, crosses-between, Ends, ordered, along-edge, sgn-facts′, differ-back, unlike-plain, unlike-first}
 
 -- ---- what is found, case by case
 module _ (w : Working) (s : Location) (q : Point64) (t : Location) where
@@ -54,8 +55,8 @@ same-is p q e = go (eqZ (p .x) (q .x)) refl (eqZ (p .y) (q .y)) refl e
   where
     go : (s : Bool) → eqZ (p .x) (q .x) ≡ s → (t : Bool) → eqZ (p .y) (q .y) ≡ t → (s && t) ≡ true → p ≡ q
     go true f true g e = λ i. record { x = eqZ-true {a = p .x} {b = q .x} f i; y = eqZ-true {a = p .y} {b = q .y} g i }
-    go true f false g e = never (sym e)
-    go false f t g e = never (sym e)
+    go true f false g e = never e refl
+    go false f t g e = never e refl
 
 one-of : (p a b : Point64) → (same-point p a || same-point p b) ≡ true → (p ≡ a) ⊎ (p ≡ b)
 one-of p a b e = go (same-point p a) refl e

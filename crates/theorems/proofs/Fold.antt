@@ -251,7 +251,7 @@ module _ (full : ℕ → Bool) (r : Rect64) (path : List Point64) where
   unfolding at-point
   at-gone s q p e = cond-true (same-location (next-location full r (s .loc) p) (s .loc)) _ _ (past-next full r (s .loc) p e)
 
-  before-is : (i : ℕ) → pt-before path (i + 1) ≡ pt-at path i
+  pub before-is : (i : ℕ) → pt-before path (i + 1) ≡ pt-at path i
   before-is i = ap (λ (b : Bool). pt-at path (if b then i + 1 - 1 else length path - 1)) (lt-yes 0 (i + 1) (omega arith)) ∙ ap (pt-at path) (let z : i + 1 - 1 ≡ i = omega arith in z)
 
   module _ (lr : LimitedRect r) (k : Proper r) (lim : All Limited path) where

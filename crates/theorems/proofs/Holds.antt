@@ -37,6 +37,10 @@ pub weaker : {A : Type 0} (Q R : A → Type 0) (m : Try A) → Holds Q m → ((a
 weaker Q R m refused f = refused
 weaker Q R m (held {a} h) f = held (f a h)
 
+pub holds-both : {A : Type 0} {Q R : A → Type 0} {m : Try A} → Holds Q m → Holds R m → Holds (λ a. Q a × R a) m
+holds-both {m = refuse n} h k = refused
+holds-both {Q} {R} {m = ok a} (held h) (held k) = held (h, k)
+
 pub holds-ok : {A : Type 0} {Q : A → Type 0} (m : Try A) (x : A) → Holds Q m → m ≡ ok x → Q x
 holds-ok {A} {Q} m x (held {a} h) e = let q : a ≡ x = cc in subst Q q h
 holds-ok m x refused e = let z : _≡_ {A = ℕ} 0 1 = cc in absurd (omega arith)

@@ -63,7 +63,10 @@ pub mod FirstCrossing
 pub mod WalkEnters
 pub mod Entering
 pub mod ClosedArea
+pub mod StartSides
+pub mod CornerLoops
 pub mod ClipEnds
+pub mod Rings
 pub mod Copied
 pub mod FewResults
 pub mod FewPoints

@@ -14,7 +14,7 @@ use Rattle.plane.specs.Limit.{Limited, rect-in-limit, all-in-limit}
 use Rattle.plane.specs.declared.rect.Rect64.{Rect64}
 use Rattle.plane.specs.declared.location.Spot.{Spot}
 use Rattle.plane.specs.declared.location.Location.{Location}
-use Rattle.plane.specs.declared.location.Location.the-variants.{Left, Inside}
+use Rattle.plane.specs.declared.location.Location.the-variants.{Inside}
 use Rattle.plane.specs.declared.crossing.Search.{Search}
 use Rattle.plane.specs.declared.crossing.Search.the-variants.{Missed, Found}
 use Rattle.plane.specs.Basics.{if_then_else_, is-nil, Try, refuse, ok, _>>=_}
@@ -27,8 +27,8 @@ use Rattle.plane.specs.Polygon.{path1-contains-path2}
 use Rattle.reference.specs.Walk.{Walk, nothing-yet, unlimited, add, add-all, push-start-loc, add-corner-prev-curr, add-corner-loc, add-corners, push-start-locs, State, Pass, Walked, remain-outside, enter, pass-to, pass-through, leave, cross-boundary, passes, last-off, add-round, retrace, close-outline, surround, after-while, walk-from, walk-closed}
 use Rattle.theorems.proofs.Holds.{Holds, held, All, all-at}
 use Rattle.theorems.proofs.Demand.{LimitedRect, rect-limited, points-limited, not-empty-order}
-use Rattle.theorems.proofs.GeoPlane.{loc, Found as Finding, nothing, found, search, Proper}
-use Rattle.theorems.proofs.GeoSearch.{Finds, FindsNone, found-or, enter as enter-geo, back}
+use Rattle.theorems.proofs.GeoPlane.{loc, Proper}
+use Rattle.theorems.proofs.GeoSearch.{Finds, FindsNone, found-or, enter as enter-geo, leave as leave-geo, back}
 use Rattle.theorems.proofs.GeoWalk.{on-edge, on-left, on-right, on-top, on-bottom}
 use Rattle.theorems.proofs.GeoProgress.{In, side-in, Stop, enters, passes as crosses, leaves, Steps, goes, halts, steps, edge-closed}
 use Rattle.theorems.proofs.Bridge.{told, search-told}
@@ -157,24 +157,18 @@ back-found r lr k p q lp lq l l′ (crosses s t i b′) o b h ip c e f = go (fou
         never refl (sym (ap hit? (search-told r lr k q p lq lp (loc s) ∙ ap (told r lr k q p lq lp) (w .at))) ∙ ap hit? f)
     go (inr n) = never refl (sym (ap hit? e) ∙ ap hit? (search-told r lr k p q lp lq (loc t) ∙ ap (told r lr k p q lp lq) (n .at)))
 
--- ---- the loops round the corners go to a side, as `CornersEnd` and `StartLocsEnd` ask: nothing is found only outside, and what is found is a side
-pub missed-outside : (r : Rect64) (lr : LimitedRect r) (k : Proper r) (p q : Point64) (lp : Limited p) (lq : Limited q) (l l′ : Location) → Stop r p l l′ → In r l q → get-intersection r p q l′ ≡ Missed → is-inside l′ ≡ false
-missed-outside r lr k p q lp lq l l′ (enters s i inner) h e =
-    let n = enter-geo r k p q inner (record { side = s; beyond = side-in r s q h }) in
-    absurd (never refl (sym (ap hit? (search-told r lr k p q lp lq Inside ∙ ap (told r lr k p q lp lq) (n .finds .at))) ∙ ap hit? e))
-missed-outside r lr k p q lp lq l l′ (crosses s t i b) h e = sides-out t
-missed-outside r lr k p q lp lq l l′ (leaves t n) h e = sides-out t
-
-pub found-side : (r : Rect64) (lr : LimitedRect r) (k : Proper r) (p q : Point64) (lp : Limited p) (lq : Limited q) (l : Location) (ip : Point64) (c : Location) → get-intersection r p q l ≡ Found ip c → is-inside c ≡ false
-found-side r lr k p q lp lq l ip c e = go (search r p q l) (sym e ∙ search-told r lr k p q lp lq l)
+-- ---- where no crossing is found the segment goes from a side to a side: into the rectangle and out of it one is found
+pub missed-sides : (r : Rect64) (lr : LimitedRect r) (k : Proper r) (p q : Point64) (lp : Limited p) (lq : Limited q) (l l′ : Location) → Stop r p l l′ → In r l q → get-intersection r p q l′ ≡ Missed
+    → (is-inside l ≡ false) × (is-inside l′ ≡ false)
+missed-sides r lr k p q lp lq l l′ t h e = go l l′ t h e
   where
-    side-of : Search → Location
-    side-of Missed = Left
-    side-of (Found q t) = t
+    found-not : (l : Location) → Finds r p q l → get-intersection r p q l ≡ Missed → ⊥
+    found-not l f e = never refl (sym (ap hit? (search-told r lr k p q lp lq l ∙ ap (told r lr k p q lp lq) (f .at))) ∙ ap hit? e)
 
-    go : (z : Finding) → Found ip c ≡ told r lr k p q lp lq z → is-inside c ≡ false
-    go nothing f = absurd (never refl (ap hit? f))
-    go (found s h) f = ap (λ (x : Search). is-inside (side-of x)) f ∙ sides-out s
+    go : (l l′ : Location) → Stop r p l l′ → In r l q → get-intersection r p q l′ ≡ Missed → (is-inside l ≡ false) × (is-inside l′ ≡ false)
+    go l l′ (enters s i inner) h e = absurd (found-not Inside (enter-geo r k p q inner (record { side = s; beyond = side-in r s q h }) .finds) e)
+    go l l′ (crosses s t i b) h e = (sides-out s, sides-out t)
+    go l l′ (leaves t n) h e = absurd (found-not (loc t) (leave-geo r k p q t n h) e)
 
 pub weaken : {full : ℕ → Bool} {A : Type 0} (Q R : A → Type 0) (m : Try A) → Room full Q m → ((a : A) → Q a → R a) → Room full R m
 weaken Q R m (want n e) f = want n e

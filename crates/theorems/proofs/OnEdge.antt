@@ -1,9 +1,7 @@
 -- What the tests of points against a rectangle say: a point on an edge, and each point of a path whose bounds are contained, is beyond no side.
-use mathlib.Core.Path.{_≡_, refl, sym}
+use mathlib.Core.Path.{_≡_, refl}
 use mathlib.Core.Bool.{Bool, true, false, cond, _&&_}
 use mathlib.Core.List.{List, [], _∷_}
-use Prim.Native.Nat.{ℕ}
-use native.Mathlib.Omega.{arith}
 use lib.IntN.{ℤ}
 use lib.Signed.{ltZ, leZ, _≤ℤ_, _<ℤ_}
 use Rattle.integers.specs.Order.{zint}
@@ -14,15 +12,12 @@ use Rattle.plane.specs.declared.location.Spot.{Spot}
 use Rattle.plane.specs.Rectangle.{no-bounds, get-location, is-empty, contains-rect, grown, bounds-from, get-bounds-path}
 use Rattle.theorems.proofs.Holds.{All}
 use Rattle.theorems.proofs.Points.{WithinSides}
-use Rattle.theorems.proofs.Tests.{neither}
+use Rattle.theorems.proofs.Tests.{never, neither}
 
 -- one case of a chain of tests
 chain : {W : Type 0} (b : Bool) (s t : Spot) → (b ≡ true → s .off ≡ false → W) → (t .off ≡ false → W) → (cond b s t) .off ≡ false → W
 chain true s t h k e = h refl e
 chain false s t h k e = k e
-
-never : {W : Type 0} → true ≡ false → W
-never e = let z : _≡_ {A = ℕ} 0 1 = cc in absurd (omega arith)
 
 pub within : (r : Rect64) (p : Point64) → r .left ≤ℤ p .x → p .x ≤ℤ r .right → r .top ≤ℤ p .y → p .y ≤ℤ r .bottom → WithinSides r p
 within r p h k l m = record {
@@ -50,16 +45,16 @@ module _ (r : Rect64) (not-empty : is-empty r ≡ false) where
       (λ b _. let t = three (eqZ (p .y) (r .top)) (leZ (r .left) (p .x)) (leZ (p .x) (r .right)) b in let w = high in let e = t .0 in let f = t .1 in let g = t .2 in within r p (omega ztest) (omega ztest) (omega ztest) (omega ztest))
       (chain (eqZ (p .y) (r .bottom) && leZ (r .left) (p .x) && leZ (p .x) (r .right)) _ _
       (λ b _. let t = three (eqZ (p .y) (r .bottom)) (leZ (r .left) (p .x)) (leZ (p .x) (r .right)) b in let w = high in let e = t .0 in let f = t .1 in let g = t .2 in within r p (omega ztest) (omega ztest) (omega ztest) (omega ztest))
-      (chain (ltZ (p .x) (r .left)) _ _ (λ _ e. never e)
-      (chain (ltZ (r .right) (p .x)) _ _ (λ _ e. never e)
-      (chain (ltZ (p .y) (r .top)) _ _ (λ _ e. never e)
-      (chain (ltZ (r .bottom) (p .y)) _ _ (λ _ e. never e) (λ e. never e))))))))
+      (chain (ltZ (p .x) (r .left)) _ _ (λ _ e. never refl e)
+      (chain (ltZ (r .right) (p .x)) _ _ (λ _ e. never refl e)
+      (chain (ltZ (p .y) (r .top)) _ _ (λ _ e. never refl e)
+      (chain (ltZ (r .bottom) (p .y)) _ _ (λ _ e. never refl e) (λ e. never refl e))))))))
     where
       three : (a b c : Bool) → (a && b && c) ≡ true → (a ≡ true) × (b ≡ true) × (c ≡ true)
       three true true true e = (refl, refl, refl)
-      three true true false e = never (sym e)
-      three true false c e = never (sym e)
-      three false b c e = never (sym e)
+      three true true false e = never e refl
+      three true false c e = never e refl
+      three false b c e = never e refl
 
 -- ---- bounds
 pub record Inner (s t : Rect64) : Type 0 where
@@ -107,10 +102,10 @@ all-in s (p ∷ path) =
 
 pub four : (a b c d : Bool) → (a && b && c && d) ≡ true → (a ≡ true) × (b ≡ true) × (c ≡ true) × (d ≡ true)
 four true true true true e = (refl, refl, refl, refl)
-four true true true false e = never (sym e)
-four true true false d e = never (sym e)
-four true false c d e = never (sym e)
-four false b c d e = never (sym e)
+four true true true false e = never e refl
+four true true false d e = never e refl
+four true false c d e = never e refl
+four false b c d e = never e refl
 
 inside : (r t : Rect64) (ps : List Point64) → contains-rect r t ≡ true → All (In t) ps → All (WithinSides r) ps
 inside r t [] e h = tt

@@ -63,7 +63,7 @@ module _ (r : Rect64) (p : Point64) where
   spot-is true s t l e = refl
   spot-is false s t l e = e
 
-  get-location-is : get-location r p .loc ≡ located r p
+  pub get-location-is : get-location r p .loc ≡ located r p
   unfolding get-location
   get-location-is =
       spot-is (eqZ (p .x) (r .left) && leZ (r .top) (p .y) && leZ (p .y) (r .bottom)) _ _ _

@@ -23,9 +23,9 @@ use Rattle.reference.specs.Clip.{enter-all, arena-of, straighten, points-from, 
 use Rattle.theorems.proofs.Holds.{Holds, refused, held, bind, either, by-search, All, anything}
 
 -- ---- where there is no point, nothing is entered in an edge list
-pub data Entered (w : Walked) : Type 0 where
-  nothing : w .entered ≡ [] → Entered w
-  something : 0 < length (w .walk .points) → Entered w
+pub data EnteredWithPoints (w : Walked) : Type 0 where
+  nothing : w .entered ≡ [] → EnteredWithPoints w
+  something : 0 < length (w .walk .points) → EnteredWithPoints w
 
 module _ (full : ℕ → Bool) where
   longer : (ps : List Point64) (p : Point64) → 0 < length (ps ++ p ∷ [])
@@ -45,50 +45,50 @@ module _ (full : ℕ → Bool) where
       (λ _. either (λ v. 0 < length (v .points)) (full (length (w .points))) _ _ (λ _. refused) (λ _. held (longer (w .points) pt))))
 
   module _ (rect : Rect64) (path : List Point64) where
-    round-some : (w : Walk) (es : List (ℕ × ℕ)) (ks : List ℕ) → 0 < length (w .points) → Holds Entered (add-round full rect w es ks)
+    round-some : (w : Walk) (es : List (ℕ × ℕ)) (ks : List ℕ) → 0 < length (w .points) → Holds EnteredWithPoints (add-round full rect w es ks)
     unfolding add-round
     round-some w es [] h = held (something h)
-    round-some w es (k ∷ ks) h = bind (λ v. 0 < length (v .points)) Entered (add full w (corner rect (side k)) false) _ (add-some w (corner rect (side k)) false) (λ v g. round-some v _ ks g)
+    round-some w es (k ∷ ks) h = bind (λ v. 0 < length (v .points)) EnteredWithPoints (add full w (corner rect (side k)) false) _ (add-some w (corner rect (side k)) false) (λ v g. round-some v _ ks g)
 
-    round-entered : (w : Walk) (ks : List ℕ) → Holds Entered (add-round full rect w [] ks)
+    round-entered : (w : Walk) (ks : List ℕ) → Holds EnteredWithPoints (add-round full rect w [] ks)
     unfolding add-round
     round-entered w [] = held (nothing refl)
-    round-entered w (k ∷ ks) = bind (λ v. 0 < length (v .points)) Entered (add full w (corner rect (side k)) false) _ (add-some w (corner rect (side k)) false) (λ v g. round-some v _ ks g)
+    round-entered w (k ∷ ks) = bind (λ v. 0 < length (v .points)) EnteredWithPoints (add full w (corner rect (side k)) false) _ (add-some w (corner rect (side k)) false) (λ v g. round-some v _ ks g)
 
-    surround-entered : (w : Walk) → Holds Entered (surround full rect path w)
+    surround-entered : (w : Walk) → Holds EnteredWithPoints (surround full rect path w)
     unfolding surround
     surround-entered w =
-        either Entered (contains-point (get-bounds-path path) (mid-point rect) && path1-contains-path2 path (as-path rect)) _ _ (λ _. round-entered w _) (λ _. held (nothing refl))
+        either EnteredWithPoints (contains-point (get-bounds-path path) (mid-point rect) && path1-contains-path2 path (as-path rect)) _ _ (λ _. round-entered w _) (λ _. held (nothing refl))
 
-    close-entered : (s : State) → Holds Entered (close-outline full rect s)
+    close-entered : (s : State) → Holds EnteredWithPoints (close-outline full rect s)
     unfolding close-outline
     close-entered s =
-        bind (λ _. Unit {0}) Entered (retrace full rect (s .walk) (s .loc) (s .walk .start-locs)) _ (anything _)
-        (λ t _. bind (λ _. Unit {0}) Entered
+        bind (λ _. Unit {0}) EnteredWithPoints (retrace full rect (s .walk) (s .loc) (s .walk .start-locs)) _ (anything _)
+        (λ t _. bind (λ _. Unit {0}) EnteredWithPoints
         (if not (same-location (t .1) (s .first-cross))
         then (add-corner-loc full rect (t .0) (t .1) (heading-clockwise (t .1) (s .first-cross)) >>= λ u. ok (u .0))
         else ok (t .0)) _ (anything _) (λ w _. held (nothing refl)))
 
-    after-entered : (loc : Location) (s : State) → Holds Entered (after-while full rect path loc s)
+    after-entered : (loc : Location) (s : State) → Holds EnteredWithPoints (after-while full rect path loc s)
     unfolding after-while
     after-entered loc s =
-        either Entered (is-inside (s .first-cross)) _ _
-        (λ _. either Entered (not (is-inside loc)) _ _ (λ _. surround-entered (s .walk)) (λ _. held (nothing refl)))
-        (λ _. either Entered (not (is-inside (s .loc)) && (not (same-location (s .loc) (s .first-cross)) || ltb 2 (length (s .walk .start-locs)))) _ _ (λ _. close-entered s) (λ _. held (nothing refl)))
+        either EnteredWithPoints (is-inside (s .first-cross)) _ _
+        (λ _. either EnteredWithPoints (not (is-inside loc)) _ _ (λ _. surround-entered (s .walk)) (λ _. held (nothing refl)))
+        (λ _. either EnteredWithPoints (not (is-inside (s .loc)) && (not (same-location (s .loc) (s .first-cross)) || ltb 2 (length (s .walk .start-locs)))) _ _ (λ _. close-entered s) (λ _. held (nothing refl)))
 
-    from-entered : (loc : Location) → Holds Entered (walk-from full rect path loc)
+    from-entered : (loc : Location) → Holds EnteredWithPoints (walk-from full rect path loc)
     unfolding walk-from
     from-entered loc =
-        bind (λ _. Unit {0}) Entered (passes full rect path (length path + 1) (record { walk = nothing-yet; i = 0; loc = loc; crossing-loc = Inside; first-cross = Inside })) _
+        bind (λ _. Unit {0}) EnteredWithPoints (passes full rect path (length path + 1) (record { walk = nothing-yet; i = 0; loc = loc; crossing-loc = Inside; first-cross = Inside })) _
         (anything _) (λ s _. after-entered loc s)
 
-    pub walked-entered : Holds Entered (walk-closed full rect path)
+    pub walked-entered : Holds EnteredWithPoints (walk-closed full rect path)
     unfolding walk-closed
     walked-entered =
-        either Entered (is-nil path) _ _ (λ _. held (nothing refl))
-        (λ _. either Entered (get-location rect (pt-at path (length path - 1)) .off) _ _ (λ _. from-entered _)
-        (λ _. by-search Entered (last-off rect path (length path - 1)) _ _
-        (λ _. bind (λ _. Unit {0}) Entered (add-all full nothing-yet path) _ (anything _) (λ w _. held (nothing refl)))
+        either EnteredWithPoints (is-nil path) _ _ (λ _. held (nothing refl))
+        (λ _. either EnteredWithPoints (get-location rect (pt-at path (length path - 1)) .off) _ _ (λ _. from-entered _)
+        (λ _. by-search EnteredWithPoints (last-off rect path (length path - 1)) _ _
+        (λ _. bind (λ _. Unit {0}) EnteredWithPoints (add-all full nothing-yet path) _ (anything _) (λ w _. held (nothing refl)))
         (λ p prev f. from-entered _)))
 
 -- ---- reading rings out
@@ -157,10 +157,10 @@ module _ (P : Point64 → Type 0) where
       (tidy-edges (w .walk .points) 0 A (check-edges (w .walk .points) rect (arena-of w), 0) >>= tidy-edges (w .walk .points) 1 A >>= tidy-edges (w .walk .points) 2 A >>= tidy-edges (w .walk .points) 3 A) _
       (anything _) (λ t _. held (paths-kept (w .walk .points) h l (t .0) _))
 
-  pub clip-kept : (A : ℕ) (rect : Rect64) (w : Walked) → Entered w → All P (w .walk .points) → Holds KeptPaths (clip-walked A rect w)
+  pub clip-kept : (A : ℕ) (rect : Rect64) (w : Walked) → EnteredWithPoints w → All P (w .walk .points) → Holds KeptPaths (clip-walked A rect w)
   clip-kept A rect w e h = go (w .walk .points) refl e
     where
-      go : (ps : List Point64) → w .walk .points ≡ ps → Entered w → Holds KeptPaths (clip-walked A rect w)
+      go : (ps : List Point64) → w .walk .points ≡ ps → EnteredWithPoints w → Holds KeptPaths (clip-walked A rect w)
       go (p ∷ ps) q e = some-points A rect w (subst (λ (l : List Point64). 0 < length l) (sym q) (suc-le-suc zero-le)) h
       go [] q (something l) = some-points A rect w l h
       go [] q (nothing n) =

@@ -14,7 +14,7 @@ use Rattle.theorems.proofs.RingSet.{Rings}
 use Rattle.theorems.proofs.RingStep.{from-node}
 use Rattle.theorems.proofs.TidyLinks.{below-of}
 
-chain-ringed : (a : Arena) (op x : ℕ) (xs : List ℕ) → Chain (next-of a) (prev-of a) x xs → Link (next-of a) (prev-of a) (end x xs) op → Ringed a op x xs
+pub chain-ringed : (a : Arena) (op x : ℕ) (xs : List ℕ) → Chain (next-of a) (prev-of a) x xs → Link (next-of a) (prev-of a) (end x xs) op → Ringed a op x xs
 chain-ringed a op x [] c l = last (l .fore) (l .back)
 chain-ringed a op x (y ∷ ys) c l = step (c .0 .fore) (c .0 .back) (chain-ringed a op y ys (c .1) l)
 

@@ -30,6 +30,7 @@ use Rattle.theorems.proofs.GeoTell.{yes-of, is-yes}
 use Rattle.theorems.proofs.GeoSides.{met-decides}
 use Rattle.theorems.proofs.GeoExact.{meets-exact, exact-meets}
 use Rattle.theorems.proofs.Bridge.{hit, edge-is}
+use Rattle.theorems.proofs.Tests.{never}
 
 module _ (r : Rect64) (lr : LimitedRect r) (not-empty : is-empty r ≡ false) (a b : Point64) (la : Limited a) (lb : Limited b) where
   -- a corner, or less than 1 + 1/33,554,432 unit on each axis from an exact crossing of the segment with an edge
@@ -70,9 +71,6 @@ pub record Finds (r : Rect64) (p q : Point64) (loc side : Location) : Type 0 whe
   pub tried : Tried r p loc side
   pub crossing : ExactCrossing r side p q
 
-never : {W : Type 0} → true ≡ false → W
-never e = let z : _≡_ {A = ℕ} 0 1 = cc in absurd (omega arith)
-
 clash : {W : Type 0} {q : Point64} {s : Location} {x : Search} → x ≡ Missed → x ≡ Found q s → W
 clash e f = let z : _≡_ {A = ℕ} 0 1 = cc in absurd (omega arith)
 
@@ -90,7 +88,7 @@ first-found (Found w s) y e = inl e
 
 guard-missed : (g : Bool) (x : Search) → (if g then x else Missed) ≡ Missed → g ≡ true → x ≡ Missed
 guard-missed true x e h = e
-guard-missed false x e h = never (sym h)
+guard-missed false x e h = never h refl
 
 guard-found : (g : Bool) (x : Search) {z : Point64} {t : Location} → (if g then x else Missed) ≡ Found z t → (g ≡ true) × (x ≡ Found z t)
 guard-found true x e = (refl, e)
@@ -104,7 +102,7 @@ module _ (r : Rect64) (lr : LimitedRect r) (not-empty : is-empty r ≡ false) (p
   side-missed s e x = go (edge r s p q) (is-yes (met-decides r proper-rect s p q) (exact-meets r p q s x)) (sym (edge-is r lr proper-rect p q lp lq s) ∙ e)
     where
       go : (h : Hit) → hit? h ≡ true → hit r lr proper-rect p q lp lq s h ≡ Missed → ⊥
-      go none t e = never (sym t)
+      go none t e = never t refl
       go (known w) t e = clash e refl
       go proper t e = clash e refl
 
@@ -124,14 +122,14 @@ module _ (r : Rect64) (lr : LimitedRect r) (not-empty : is-empty r ≡ false) (p
   edge-missed Top e x = side-missed onTop e x
   edge-missed Right e x = side-missed onRight e x
   edge-missed Bottom e x = side-missed onBottom e x
-  edge-missed Inside e x = never (x .is-side)
+  edge-missed Inside e x = never refl (x .is-side)
 
   edge-exact : (l : Location) → is-inside l ≡ false → {z : Point64} {t : Location} → edge-intersection r l p q ≡ Found z t → (t ≡ l) × ExactCrossing r l p q
   edge-exact Left i e = side-exact onLeft e
   edge-exact Top i e = side-exact onTop e
   edge-exact Right i e = side-exact onRight e
   edge-exact Bottom i e = side-exact onBottom e
-  edge-exact Inside i e = never i
+  edge-exact Inside i e = never refl i
 
   finds-on : {loc : Location} {z : Point64} {t : Location} (l : Location) → is-inside l ≡ false → Tried r p loc l → edge-intersection r l p q ≡ Found z t → Finds r p q loc t
   finds-on {loc} {z} {t} l i w e = let x = edge-exact l i e in subst (Finds r p q loc) (sym (x .0)) (record { tried = w; crossing = x .1 })
@@ -149,7 +147,7 @@ module _ (r : Rect64) (lr : LimitedRect r) (not-empty : is-empty r ≡ false) (p
         go side (own h f) x a b d = edge-missed s a (subst (λ (l : Location). ExactCrossing r l p q) f x)
         go side (low h g f) x a b d = edge-missed (lower s) (guard-missed (beyond r (lower s) p) (edge-intersection r (lower s) p q) b g) (subst (λ (l : Location). ExactCrossing r l p q) f x)
         go side (up h f) x a b d = edge-missed (upper s) d (subst (λ (l : Location). ExactCrossing r l p q) f x)
-        go side (any h f) x a b d = never (sym h ∙ i)
+        go side (any h f) x a b d = never refl (sym h ∙ i)
 
     side-told : {z : Point64} {t : Location} → side-intersection r s p q ≡ Found z t → Finds r p q s t
     unfolding side-intersection
@@ -177,7 +175,7 @@ module _ (r : Rect64) (lr : LimitedRect r) (not-empty : is-empty r ≡ false) (p
       go Top x a b c d = edge-missed Top b x
       go Right x a b c d = edge-missed Right c x
       go Bottom x a b c d = edge-missed Bottom d x
-      go Inside x a b c d = never (x .is-side)
+      go Inside x a b c d = never refl (x .is-side)
 
   -- and what is found is on a side that was tried, which has an exact crossing with the segment
   pub search-exact : (loc : Location) {z : Point64} {side : Location} → get-intersection r p q loc ≡ Found z side → Finds r p q loc side

@@ -14,7 +14,6 @@ use Rattle.plane.specs.declared.location.Spot.{Spot}
 use Rattle.plane.specs.declared.location.Location.{Location}
 use Rattle.plane.specs.declared.location.Location.the-variants.{Left, Top, Right, Bottom, Inside}
 use Rattle.plane.specs.declared.crossing.Search.the-variants.{Found}
-use Rattle.plane.specs.Basics.{Try, refuse, ok}
 use Rattle.plane.specs.Points.{pt-at, origin}
 use Rattle.plane.specs.Rectangle.{as-path, get-location, is-empty, intersects, contains-rect, get-bounds-path, corner}
 use Rattle.plane.specs.Intersection.{get-intersection}
@@ -23,11 +22,12 @@ use Rattle.plane.specs.Locations.{is-inside}
 use Rattle.reference.specs.Clip.{execute}
 use Rattle.reference.specs.Lines.{execute-lines}
 use Rattle.theorems.specs.Demand.{ExactCrossing, NearTo, InOrOn, Segment, onward, closing, turned, Source, input-point, corner-point, crossing}
-use Rattle.theorems.proofs.Holds.{Holds, refused, held, bind, either, All, all-of}
+use Rattle.theorems.proofs.Holds.{Holds, held, bind, holds-both, either, All, all-of}
 use Rattle.theorems.proofs.Points.{WithinSides, all-keeping, walked-kept}
-use Rattle.theorems.proofs.Returned.{Entered, walked-entered, AllPaths, KeptPaths, clip-kept}
+use Rattle.theorems.proofs.Returned.{EnteredWithPoints, walked-entered, AllPaths, KeptPaths, clip-kept}
 use Rattle.theorems.proofs.OnEdge.{on-edge, contained}
 use Rattle.theorems.proofs.PointsOpen.{walk-open-kept, lines-kept}
+use Rattle.theorems.proofs.Tests.{never}
 
 -- what a search finds on the segment from a to b: a corner, or a point near an exact crossing
 pub data Hit (r : Rect64) (a b q : Point64) : Type 0 where
@@ -44,19 +44,16 @@ in-or-on r p h = record { left = ltZ-false (h .left); right = ltZ-false (h .righ
 pub inner : (r : Rect64) (p : Point64) → get-location r p .off ≡ true → is-inside (get-location r p .loc) ≡ true → WithinSides r p
 unfolding get-location
 inner r p =
-    chain (eqZ (p .x) (r .left) && leZ (r .top) (p .y) && leZ (p .y) (r .bottom)) _ _ (λ e _. never e)
-    (λ _. chain (eqZ (p .x) (r .right) && leZ (r .top) (p .y) && leZ (p .y) (r .bottom)) _ _ (λ e _. never e)
-    (λ _. chain (eqZ (p .y) (r .top) && leZ (r .left) (p .x) && leZ (p .x) (r .right)) _ _ (λ e _. never e)
-    (λ _. chain (eqZ (p .y) (r .bottom) && leZ (r .left) (p .x) && leZ (p .x) (r .right)) _ _ (λ e _. never e)
-    (λ _. chain (ltZ (p .x) (r .left)) _ _ (λ _ e. never e)
-    (λ a. chain (ltZ (r .right) (p .x)) _ _ (λ _ e. never e)
-    (λ b. chain (ltZ (p .y) (r .top)) _ _ (λ _ e. never e)
-    (λ c. chain (ltZ (r .bottom) (p .y)) _ _ (λ _ e. never e)
+    chain (eqZ (p .x) (r .left) && leZ (r .top) (p .y) && leZ (p .y) (r .bottom)) _ _ (λ e _. never e refl)
+    (λ _. chain (eqZ (p .x) (r .right) && leZ (r .top) (p .y) && leZ (p .y) (r .bottom)) _ _ (λ e _. never e refl)
+    (λ _. chain (eqZ (p .y) (r .top) && leZ (r .left) (p .x) && leZ (p .x) (r .right)) _ _ (λ e _. never e refl)
+    (λ _. chain (eqZ (p .y) (r .bottom) && leZ (r .left) (p .x) && leZ (p .x) (r .right)) _ _ (λ e _. never e refl)
+    (λ _. chain (ltZ (p .x) (r .left)) _ _ (λ _ e. never e refl)
+    (λ a. chain (ltZ (r .right) (p .x)) _ _ (λ _ e. never e refl)
+    (λ b. chain (ltZ (p .y) (r .top)) _ _ (λ _ e. never e refl)
+    (λ c. chain (ltZ (r .bottom) (p .y)) _ _ (λ _ e. never e refl)
     (λ d _ _. record { left = a; right = b; bottom = d; top = c }))))))))
   where
-    never : {W : Type 0} → false ≡ true → W
-    never e = let z : _≡_ {A = ℕ} 0 1 = cc in absurd (omega arith)
-
     chain : {W : Type 0} (b : Bool) (s t : Spot) → (s .off ≡ true → is-inside (s .loc) ≡ true → W) → (b ≡ false → t .off ≡ true → is-inside (t .loc) ≡ true → W)
         → (cond b s t) .off ≡ true → is-inside ((cond b s t) .loc) ≡ true → W
     chain true s t h k e f = h e f
@@ -65,10 +62,6 @@ inner r p =
 true-of : (b : Bool) → T b → b ≡ true
 true-of true h = refl
 true-of false h = absurd h
-
-holds-both : {A : Type 0} {Q R : A → Type 0} {m : Try A} → Holds Q m → Holds R m → Holds (λ a. Q a × R a) m
-holds-both {m = refuse n} h k = refused
-holds-both {Q} {R} {m = ok a} (held h) (held k) = held (h, k)
 
 module _ (closed : Bool) (r : Rect64) (path : List Point64) (searches : (a b : Point64) → Segment closed path a b → Searches r a b) where
   abbrev From : Point64 → Type 0
@@ -119,7 +112,7 @@ module _ (full : ℕ → Bool) (A : ℕ) (r : Rect64) (path : List Point64) (sea
       (λ _. either (KeptPaths (Source true r path)) (not (intersects r (get-bounds-path path))) _ _ (λ _. held tt)
       (λ _. either (KeptPaths (Source true r path)) (contains-rect r (get-bounds-path path)) _ _
       (λ c. held (all-inputs path (inputs true r path searches) (contained r path c), tt))
-      (λ _. bind (λ w. All (Source true r path) (w .walk .points) × Entered w) (KeptPaths (Source true r path)) (walk-closed full r path) _
+      (λ _. bind (λ w. All (Source true r path) (w .walk .points) × EnteredWithPoints w) (KeptPaths (Source true r path)) (walk-closed full r path) _
       (holds-both
       (walked-kept full (Source true r path) (λ w. All (Source true r path) (w .points)) (all-keeping full (Source true r path)) r (corners true r path searches) path (inputs true r path searches)
       (λ i l. found true r path searches (pt-at path i) (pt-before path i) (turned (before i l)))

@@ -1,5 +1,6 @@
 -- Loops of the Rust that the definitions bound by a number of passes: that the number is enough. Statements only; proofs: Ends, Corners,
--- Passes, Straightens, Drops, Scans (all twelve). That the nodes are a ring wherever a call goes round them is the subject of LoopsEnd.
+-- Passes, Straightens, Drops, Scans (all twelve). That a call goes round the corners to a side only is the subject of CornerLoops, that the
+-- nodes are a ring wherever it goes round them of LoopsEnd and Rings.
 use mathlib.Core.Path.{_≡_}
 use mathlib.Core.Bool.{Bool, true, false}
 use mathlib.Core.List.{List, [], _∷_}

@@ -2,4 +2,6 @@
 pub mod Demand
 pub mod Bounds
 pub mod LoopsEnd
+pub mod CornerLoops
 pub mod Sizes
+pub mod Rings

@@ -1,5 +1,5 @@
 -- The counted loops over the arena have all ended when a call of `execute` goes on from them: their counts never run out.
--- Statements only, loop by loop along the definition. The loops of the walk and of `point_in_polygon` are in Bounds.
+-- Statements only, loop by loop along the definition. The loops of the walk are in Bounds and CornerLoops, those of `point_in_polygon` in Bounds.
 use mathlib.Core.Path.{_≡_}
 use mathlib.Core.Bool.{Bool, true, false, not, _||_}
 use mathlib.Core.Logic.{_⊎_}
