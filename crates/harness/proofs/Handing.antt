@@ -11,7 +11,8 @@ use borrow.Author.Tests.{le-ltb, lt-ltb, ltb-false}
 use Rattle.plane.specs.declared.rect.Rect64.{Rect64}
 use Rattle.plane.specs.Basics.{Try, refuse, ok, _>>=_}
 use Rattle.plane.specs.Points.{points-of, coordinates-of}
-use Rattle.reference.specs.Entry.{is-present, filled, Outcome, refused, drawn, Lent, After, Drawing, joined, delivered, answered, clip-open, early-refusal}
+use Rattle.reference.specs.Entry.{is-present, filled, Outcome, refused, drawn, Lent, After, Drawing, joined, delivered, answered, clip-open, clip-closed, early-refusal}
+use Rattle.reference.specs.Clip.{execute}
 use Rattle.reference.specs.Lines.{execute-lines}
 use Rattle.reference.specs.Walk.{no-room}
 use Rattle.rectclip.specs.declared.answer.Presence.{Presence}
@@ -20,6 +21,7 @@ use Rattle.rectclip.specs.declared.answer.Refusal.the-variants.{OddCoordinates,
 use Rattle.rectclip.specs.declared.answer.Answer.{Answer}
 use Rattle.rectclip.specs.Answers.{presence, number, outcome}
 use Rattle.rectclip.specs.Promises.{lent, ClipsOpen}
+use Rattle.rectclip.specs.ClosedPromises.{ClipsClosed}
 use Rattle.harness.specs.Values.{presence-value, Exported, counted-by, counted, uncounted-value, Counted, Hands}
 
 -- the value of `present`, where its answer is q
@@ -119,7 +121,23 @@ module _ (l : Lent) (counts : List ℕ) (h : ltb (length counts) 3 ≡ true) whe
       go true e (ok d) = rw e (uncounted-drawn d)
       go false e drawing = rw e (record { value = refl; coordinates = refl; lengths = refl; store = refl; work = refl; numbers = refl; no-coordinates = refl; no-lengths = refl })
 
--- ---- the line clipper's entry
+-- what an entry that was lent no room for a result leaves, handed over; early and drawing are the definition's
+pub hands-uncounted : (l : Lent) (counts : List ℕ) → length counts < 3 → (early : ℕ) (drawing : Try Drawing) (after : Lent) (r : Answer) (v : ℕ) → v ≡ uncounted-value (outcome r)
+    → outcome r ≡ answered (bare l) early drawing .answer → after .coordinates ≡ answered (bare l) early drawing .lists .coordinates → after .lengths ≡ answered (bare l) early drawing .lists .lengths
+    → after .store ≡ answered (bare l) early drawing .lists .store → after .work ≡ answered (bare l) early drawing .lists .work
+    → Hands (counted l counts (answered l early drawing)) v (lent (after .coordinates ++ l .coordinates) (after .lengths ++ l .lengths) (after .store) (after .work)) counts
+hands-uncounted l counts h early drawing after r v n a c k s w =
+    let u = uncounted-is l counts (lt-ltb _ _ h) early drawing in
+    record {
+      value = n ∙ ap uncounted-value a ∙ sym (u .value);
+      coordinates = ap (λ x. x ++ l .coordinates) (c ∙ u .no-coordinates) ∙ sym (u .coordinates);
+      lengths = ap (λ x. x ++ l .lengths) (k ∙ u .no-lengths) ∙ sym (u .lengths);
+      store = s ∙ sym (u .store);
+      work = w ∙ sym (u .work);
+      counts = sym (u .numbers);
+    }
+
+-- ---- the two entries, by what they promise; R′ is the rectangle of the numbers passed
 module _ (R R′ : Rect64) (path : List ℤ) (l : Lent) (counts : List ℕ) (e : R ≡ R′) where
   pub lines-handed : {after : Lent} {r : Answer} {v : ℕ} {counts′ : List ℕ} → ClipsOpen R path l r after → Counted (outcome r) counts v counts′ → 3 ≤ length counts
       → Hands (counted l counts (clip-open R′ path l)) v after counts′
@@ -131,13 +149,20 @@ module _ (R R′ : Rect64) (path : List ℤ) (l : Lent) (counts : List ℕ) (e :
       → Hands (counted l counts (clip-open R′ path l)) v (lent (after .coordinates ++ l .coordinates) (after .lengths ++ l .lengths) (after .store) (after .work)) counts
   unfolding clip-open
   lines-uncounted {after} {r} {v} k n h =
-      let u = uncounted-is l counts (lt-ltb _ _ h) (early-refusal (length (l .store) / 2) 0 (length (l .work)) R path) (execute-lines (no-room (length (l .store) / 2)) R (points-of path) >>= λ paths. ok (paths, 0)) in
       subst (λ q. Hands (counted l counts (clip-open q path l)) v (lent (after .coordinates ++ l .coordinates) (after .lengths ++ l .lengths) (after .store) (after .work)) counts) e
-      (record {
-        value = n ∙ ap uncounted-value (k .answer) ∙ sym (u .value);
-        coordinates = ap (λ c. c ++ l .coordinates) (k .coordinates ∙ u .no-coordinates) ∙ sym (u .coordinates);
-        lengths = ap (λ c. c ++ l .lengths) (k .lengths ∙ u .no-lengths) ∙ sym (u .lengths);
-        store = k .store ∙ sym (u .store);
-        work = k .work ∙ sym (u .work);
-        counts = sym (u .numbers);
-      })
+      (hands-uncounted l counts h (early-refusal (length (l .store) / 2) 0 (length (l .work)) R path) (execute-lines (no-room (length (l .store) / 2)) R (points-of path) >>= λ paths. ok (paths, 0)) after r v n
+      (k .answer) (k .coordinates) (k .lengths) (k .store) (k .work))
+
+  pub closed-handed : (A : ℕ) {after : Lent} {r : Answer} {v : ℕ} {counts′ : List ℕ} → ClipsClosed A R path l r after → Counted (outcome r) counts v counts′ → 3 ≤ length counts
+      → Hands (counted l counts (clip-closed A R′ path l)) v after counts′
+  closed-handed A {after} {r} {v} {counts′} k n h =
+      subst (λ q. Hands (counted l counts (clip-closed A q path l)) v after counts′) e
+      (hands-counted l counts (clip-closed A R path l) r (k .answer) n h (k .coordinates) (k .lengths) (k .store) (k .work))
+
+  pub closed-uncounted : (A : ℕ) {after : Lent} {r : Answer} {v : ℕ} → ClipsClosed A R path (bare l) r after → v ≡ uncounted-value (outcome r) → length counts < 3
+      → Hands (counted l counts (clip-closed A R′ path l)) v (lent (after .coordinates ++ l .coordinates) (after .lengths ++ l .lengths) (after .store) (after .work)) counts
+  unfolding clip-closed
+  closed-uncounted A {after} {r} {v} k n h =
+      subst (λ q. Hands (counted l counts (clip-closed A q path l)) v (lent (after .coordinates ++ l .coordinates) (after .lengths ++ l .lengths) (after .store) (after .work)) counts) e
+      (hands-uncounted l counts h (early-refusal (length (l .store) / 2) A (length (l .work)) R path) (execute (no-room (length (l .store) / 2)) A R (points-of path)) after r v n
+      (k .answer) (k .coordinates) (k .lengths) (k .store) (k .work))

@@ -1,7 +1,7 @@
 // The clippers as a static library over plain numbers and lists of any length: for measuring and comparing only.
 ghost use mathlib.Core.Path.{_≡_};
 ghost use Rattle.plane.specs.Rectangle.{rect};
-ghost use Rattle.reference.specs.Entry.{clip-open, is-present};
+ghost use Rattle.reference.specs.Entry.{clip-open, clip-closed, is-present};
 ghost use Rattle.rectclip.specs.Promises.{lent};
 ghost use Prim.Native.Nat.{_≤_};
 ghost use lib.ListN.{length};
@@ -13,6 +13,7 @@ use rectclip::answer::Presence;
 use rectclip::answer::Refusal;
 use rectclip::lines::RectClipLines64;
 use rectclip::present::present;
+use rectclip::rect_clip::RectClip64;
 
 // Document 01's number of a refusal.
 pub fn number(r: Refusal) -> u32
@@ -68,6 +69,39 @@ pub extern "C" fn harness_rect_clip_lines64(
         return uncounted(answer);
     }
     let answer = clipper.execute(path, store, work, coordinates, lengths);
+    hand_over(answer, counts)
+}
+
+// `RectClip64::execute`, with the turn allowance: otherwise as the line clipper's.
+#[no_mangle]
+pub extern "C" fn harness_rect_clip64(
+    left: i64,
+    top: i64,
+    right: i64,
+    bottom: i64,
+    path: &[i64],
+    allowance: u32,
+    store: &mut [i64],
+    work: &mut [u32],
+    coordinates: &mut [i64],
+    lengths: &mut [u32],
+    counts: &mut [u32],
+) -> u32
+    ensures { λ r. ⌜ Hands (counted (lent (now (coordinates .entry)) (now (lengths .entry)) (now (store .entry)) (now (work .entry))) (now (counts .entry)) (clip-closed allowance (rect left top right bottom) (now (path .entry)) (lent (now (coordinates .entry)) (now (lengths .entry)) (now (store .entry)) (now (work .entry))))) r (lent (now (coordinates .exit)) (now (lengths .exit)) (now (store .exit)) (now (work .exit))) (now (counts .exit)) ⌝ }
+{
+    let clipper = RectClip64::new(Rect64::new(left, top, right, bottom));
+    if counts.len() < 3 {
+        let answer = clipper.execute(
+            path,
+            allowance,
+            store,
+            work,
+            &mut coordinates[..0],
+            &mut lengths[..0],
+        );
+        return uncounted(answer);
+    }
+    let answer = clipper.execute(path, allowance, store, work, coordinates, lengths);
     hand_over(answer, counts)
 }
 
