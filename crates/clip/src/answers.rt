@@ -10,6 +10,7 @@ use plane::rect::Rect64;
 use rectclip::answer::Answer;
 use rectclip::answer::Refusal;
 use rectclip::lines::RectClipLines64;
+use rectclip::rect_clip::RectClip64;
 use text::reading::Request;
 use text::reading::read_line;
 use text::writing::write_path;
@@ -118,18 +119,6 @@ fn print_drawn(
     print_paths(closed, line, paths as usize, coordinates, lengths);
 }
 
-// A closed path is clipped by `RectClip64`.
-fn clip_closed(
-    rect: Rect64,
-    path: &[i64],
-    store: &mut [i64],
-    work: &mut [u32],
-    coordinates: &mut [i64],
-    lengths: &mut [u32],
-) -> Answer {
-    Answer::Refused(Refusal::UnreadableLine)
-}
-
 fn clip(
     rect: Rect64,
     closed: bool,
@@ -140,7 +129,7 @@ fn clip(
     lengths: &mut [u32; 513],
 ) -> Answer {
     if closed {
-        return clip_closed(rect, path, store, work, coordinates, lengths);
+        return RectClip64::new(rect).execute(path, 256, store, work, coordinates, lengths);
     }
     RectClipLines64::new(rect).execute(path, store, work, coordinates, lengths)
 }
