@@ -72,7 +72,7 @@ pub(crate) fn first_line(bytes: &[u8]) -> Start {
 }
 
 fn print_path(closed: bool, line: i64, path: &[i64]) {
-    let mut out = [0u8; 24576];
+    let mut out = [0u8; 12288];
     let n = write_path(closed, line, path, &mut out);
     io::write_all(STDOUT_FILENO, &out[..n]);
 }
@@ -113,8 +113,8 @@ fn print_drawn(
     closed: bool,
     line: i64,
     paths: u32,
-    coordinates: &[i64; 1026],
-    lengths: &[u32; 513],
+    coordinates: &[i64; 512],
+    lengths: &[u32; 257],
 ) {
     print_paths(closed, line, paths as usize, coordinates, lengths);
 }
@@ -125,8 +125,8 @@ fn clip(
     path: &[i64],
     store: &mut [i64; 512],
     work: &mut [u32; 8208],
-    coordinates: &mut [i64; 1026],
-    lengths: &mut [u32; 513],
+    coordinates: &mut [i64; 512],
+    lengths: &mut [u32; 257],
 ) -> Answer {
     if closed {
         return RectClip64::new(rect).execute(path, 256, store, work, coordinates, lengths);
@@ -134,12 +134,12 @@ fn clip(
     RectClipLines64::new(rect).execute(path, store, work, coordinates, lengths)
 }
 
-// W = A = 256: every result has room.
+// W = A = 256. A result has at most W points and A + 1 paths, so the lists have room for every one.
 fn clip_path(rect: Rect64, closed: bool, line: i64, path: &[i64]) {
     let mut store = [0i64; 512];
     let mut work = [0u32; 8208];
-    let mut coordinates = [0i64; 1026];
-    let mut lengths = [0u32; 513];
+    let mut coordinates = [0i64; 512];
+    let mut lengths = [0u32; 257];
     let answer = clip(
         rect,
         closed,
