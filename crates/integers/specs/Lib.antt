@@ -12,4 +12,5 @@ pub mod Certify
 pub mod CertifyExamples
 pub mod Sign
 pub mod Bound
+pub mod BoundExamples
 pub mod Quot

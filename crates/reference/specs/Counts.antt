@@ -1,5 +1,5 @@
 -- The counts by which the definition bounds the Rust's loops, and why each is enough. None of them ever runs out: the statements are in
--- theorems/specs (Bounds, LoopsEnd) and proved there, so the counted definition is the Rust's own.
+-- theorems/specs (Bounds, LoopsEnd, CornerLoops) and proved there, so the counted definition is the Rust's own.
 use Prim.Native.Nat.{ℕ, _+_, _*_}
 
 -- round the rectangle to a side: three steps at most lead from one side to another, and four back to the first
