@@ -10,13 +10,12 @@ use lib.IntN.{ℤ, pos}
 use lib.ListN.{length, replicate}
 use Rattle.integers.specs.Tests.{T-of}
 use Rattle.plane.specs.declared.rect.Rect64.{Rect64}
-use Rattle.plane.specs.Basics.{Try}
 use Rattle.plane.specs.Limit.{all-in-limit, rect-in-limit}
 use Rattle.plane.specs.Points.{points-of}
 use Rattle.plane.specs.Rectangle.{get-bounds-path}
 use Rattle.reference.specs.Walk.{no-room}
 use Rattle.reference.specs.Clip.{execute}
-use Rattle.reference.specs.Entry.{Drawing, Lent, After, answered, early-refusal, clip-closed}
+use Rattle.reference.specs.Entry.{Lent, After, answered, early-refusal, clip-closed}
 use Rattle.theorems.proofs.ClosedArea.{call-bounded, demand-3}
 use Rattle.rectclip.specs.declared.answer.Answer.{Answer}
 use Rattle.rectclip.specs.declared.answer.Answer.the-variants as answer
@@ -76,9 +75,6 @@ module _ (rect : Rect64) (path coordinates : List ℤ) (lengths : List ℕ) (sto
           points = a .points;
           bound = eb;
         }
-
-    abbrev drawing : Try Drawing
-    drawing = execute (no-room (length store / 2)) A rect (points-of path)
 
     clip-is : clip-closed A rect path (lent coordinates lengths store work) ≡ answered (lent coordinates lengths store work) 0 (execute (no-room (length store / 2)) A rect (points-of path))
     unfolding clip-closed

@@ -2,7 +2,7 @@
 use mathlib.Core.Path.{_≡_, refl, sym, _∙_, ap}
 use mathlib.Core.Bool.{Bool, true, false, not, _&&_, cond}
 use mathlib.Core.List.{List, [], _∷_}
-use Prim.Native.Nat.{ℕ, suc, _+_, _*_, _/_, _<_, _≤_}
+use Prim.Native.Nat.{ℕ, _/_, _<_, _≤_}
 use native.Mathlib.Omega.{arith}
 use borrow.Author.Tests.{lt-ltb, le-ltb}
 use lib.Dec.{T, ltb}
@@ -11,12 +11,11 @@ use lib.ListN.{length}
 use Rattle.integers.specs.Tests.{T-of}
 use Rattle.plane.specs.declared.point.Point64.{Point64}
 use Rattle.plane.specs.declared.rect.Rect64.{Rect64}
-use Rattle.plane.specs.Basics.{if_then_else_, Try, refuse, ok, _>>=_}
+use Rattle.plane.specs.Basics.{Try, refuse, ok, _>>=_}
 use Rattle.plane.specs.Points.{points-of}
 use Rattle.plane.specs.Rectangle.{is-empty, intersects, contains-rect, get-bounds-path}
 use Rattle.reference.specs.Walk.{Walked, walk-closed, no-room}
 use Rattle.reference.specs.Clip.{clip-walked, execute}
-use Rattle.reference.specs.Entry.{Drawing, joined}
 use Rattle.theorems.specs.Demand.{is-walked}
 use Rattle.theorems.proofs.Holds.{holds-ok}
 use Rattle.theorems.proofs.WalkArena.{Entered}
@@ -51,9 +50,6 @@ execute-walked W A rect path h =
     walked-way (is-empty rect) (ltb (length path) 3) (intersects rect (get-bounds-path path)) (contains-rect rect (get-bounds-path path)) _ _ _ _ (walk-closed (no-room W) rect path >>= clip-walked A rect) h
 
 module _ {rect : Rect64} {path : List ℤ} {A : ℕ} {store : List ℤ} {work : List ℕ} (x : WalkClips rect path A store work) where
-  abbrev full : ℕ → Bool
-  full = no-room (length store / 2)
-
   extent : is-empty rect ≡ false
   extent = walked-not-empty rect (points-of path) (x .walked)
 
@@ -97,9 +93,6 @@ module _ {rect : Rect64} {path : List ℤ} {A : ℕ} {store : List ℤ} {work : 
 
 -- ---- the drawing by its cases
 module _ {rect : Rect64} {path : List ℤ} {bounds : Rect64} {A : ℕ} {store : List ℤ} {work : List ℕ} (x : Clippable rect path bounds A store work) where
-  abbrev drawing : Try Drawing
-  drawing = execute (no-room (length store / 2)) A rect (points-of path)
-
   pub drawn-empty : is-empty rect ≡ true → execute (no-room (length store / 2)) A rect (points-of path) ≡ ok ([], 0)
   unfolding execute
   drawn-empty e = rw e refl

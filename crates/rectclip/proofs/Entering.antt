@@ -1,13 +1,13 @@
--- The line clipper's entry: what the early checks tell, and what is left of a call that they refuse or let through. Assumes nothing.
+-- What the early checks tell, what is left of a call that worked out a drawing, and the line clipper's entry. Assumes nothing.
 use mathlib.Core.Path.{_≡_, refl, sym, _∙_, ap}
 use mathlib.Core.Bool.{Bool, true, false, not, _||_}
-use mathlib.Core.List.{List, [], _∷_, _++_, map}
-use Prim.Native.Nat.{ℕ, zero, suc, _+_, _*_, _/_, _%_, _<_, _≤_}
+use mathlib.Core.List.{List, [], map}
+use Prim.Native.Nat.{ℕ, suc, _+_, _*_, _/_, _%_, _<_, _≤_}
 use native.Mathlib.Omega.{arith}
 use borrow.Author.Tests.{eq-eqb, ne-eqb, eqb-false, lt-ltb, le-ltb, ltb-false, le-leb, not-false}
-use lib.Dec.{eqb, ltb, leb}
+use lib.Dec.{eqb, ltb}
 use lib.IntN.{ℤ, pos}
-use lib.ListN.{length, take, drop, replicate, length-map, length-append}
+use lib.ListN.{length, take, drop, replicate, length-map}
 use lib.Seq.{take-at}
 use Rattle.integers.specs.Tests.{T-of}
 use Rattle.plane.specs.declared.point.Point64.{Point64}
@@ -17,9 +17,8 @@ use Rattle.plane.specs.Limit.{all-in-limit, rect-in-limit}
 use Rattle.plane.specs.Points.{points-of, coordinates-of}
 use Rattle.plane.specs.Rectangle.{is-empty, intersects, get-bounds-path}
 use Rattle.reference.specs.Walk.{Walk, no-room}
-use Rattle.reference.specs.Lines.{pieces, longer-than-one, walk-open, execute-lines}
-use Rattle.theorems.specs.Demand.{Sourced}
-use Rattle.reference.specs.Entry.{Outcome, refused, drawn, Drawing, Lent, After, joined, filled, cleared, delivered, answered, early-refusal, sheet-refusal, clip-open, filled-part}
+use Rattle.reference.specs.Lines.{walk-open, execute-lines}
+use Rattle.reference.specs.Entry.{refused, drawn, Drawing, Lent, After, joined, filled, delivered, answered, early-refusal, sheet-refusal, clip-open, filled-part}
 use Rattle.theorems.proofs.Demand.{open-sourced}
 use Rattle.rectclip.specs.declared.answer.Answer.{Answer}
 use Rattle.rectclip.specs.declared.answer.Answer.the-variants as answer
@@ -27,16 +26,11 @@ use Rattle.rectclip.specs.declared.answer.Check.{Check}
 use Rattle.rectclip.specs.declared.answer.Check.the-variants as check
 use Rattle.rectclip.specs.declared.answer.Counts.{Counts}
 use Rattle.rectclip.specs.declared.answer.Refusal.{Refusal}
-use Rattle.rectclip.specs.declared.walk.WalkState.{WalkState}
-use Rattle.rectclip.specs.declared.walk.Step.{Step}
-use Rattle.rectclip.specs.declared.walk.Step.the-variants.{Walked, Refused}
+use Rattle.rectclip.specs.declared.walk.Step.the-variants.{Refused}
 use Rattle.rectclip.specs.Answers.{number, outcome, check-number}
-use Rattle.rectclip.specs.Memory.{Room}
-use Rattle.rectclip.specs.Walking.{walk-of, Stepped}
 use Rattle.rectclip.specs.Pieces.{paths-of}
 use Rattle.rectclip.specs.Promises.{lent, line-drawing, Returned, ClipsOpen, Leaves, Delivers, Drawable}
 use Rattle.rectclip.proofs.Sheets.{number-not-zero}
-use Rattle.rectclip.proofs.Walking.{walked-is, refused-is}
 use Rattle.rectclip.proofs.Writing.{coordinates-length, filled-length}
 use Rattle.rectclip.proofs.Delivering.{long-enough}
 

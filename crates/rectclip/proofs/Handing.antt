@@ -1,14 +1,14 @@
 -- A polygon clipper's result handed out: what is left to read out, or the path as it came; refusal 10 or 11. Assumes nothing.
 use mathlib.Core.Path.{_≡_, refl, sym, _∙_, ap}
 use mathlib.Core.Bool.{true, false}
-use mathlib.Core.List.{List, [], _∷_, _++_, map, append-nil}
-use Prim.Native.Nat.{ℕ, zero, suc, _+_, _*_, _/_, _<_, _≤_}
+use mathlib.Core.List.{List, [], _∷_, _++_, append-nil}
+use Prim.Native.Nat.{ℕ, _+_, _*_, _/_, _<_, _≤_}
 use native.Mathlib.Omega.{arith}
 use lib.IntN.{ℤ}
-use lib.ListN.{length, set, take, drop}
+use lib.ListN.{length, set, take}
 use lib.Seq.{take-length}
 use Rattle.plane.specs.declared.point.Point64.{Point64}
-use Rattle.plane.specs.Basics.{if_then_else_, Try, refuse, ok}
+use Rattle.plane.specs.Basics.{Try, refuse, ok}
 use Rattle.plane.specs.Points.{points-of, coordinates-of}
 use Rattle.reference.specs.Entry.{Drawing, joined, filled}
 use Rattle.rectclip.specs.declared.answer.Answer.{Answer}
@@ -20,10 +20,9 @@ use Rattle.rectclip.specs.declared.paths.Counts.{Counts}
 use Rattle.rectclip.specs.Answers.{number}
 use Rattle.rectclip.specs.Stored.{points-in}
 use Rattle.rectclip.specs.Pieces.{Copies, Copied}
-use Rattle.rectclip.specs.Pieces as pieces
-use Rattle.rectclip.specs.Paths.{Writing, Written, nothing-yet, all-nodes}
-use Rattle.rectclip.specs.Promises.{lent, Leaves, Delivers}
-use Rattle.rectclip.specs.Delivering.{Gives, rings-left, drawing-left, Counted, Readable, Copyable}
+use Rattle.rectclip.specs.Paths.{Writing, Written, nothing-yet}
+use Rattle.rectclip.specs.Promises.{Delivers}
+use Rattle.rectclip.specs.Delivering.{Gives, rings-left, drawing-left, Readable}
 use Rattle.rectclip.proofs.Coordinates.{points-length}
 use Rattle.rectclip.proofs.Delivering.{short-coordinates, short-lengths, long-enough}
 use Rattle.rectclip.proofs.Entering.{leaves-none, leaves-drawing, leaves-refusal}

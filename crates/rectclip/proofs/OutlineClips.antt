@@ -3,19 +3,18 @@
 use mathlib.Core.Path.{_≡_, refl, sym, _∙_, ap}
 use mathlib.Core.Bool.{Bool, true, false}
 use mathlib.Core.List.{List, [], _∷_, map}
-use Prim.Native.Nat.{ℕ, zero, suc, _+_, _*_, _/_, _<_, _≤_}
+use Prim.Native.Nat.{ℕ, zero, suc, _+_, _/_, _<_, _≤_}
 use native.Mathlib.Omega.{arith}
 use lib.IntN.{ℤ}
 use lib.ListN.{length, getD, take}
 use lib.Seq.{getD-take}
 use Rattle.plane.specs.declared.point.Point64.{Point64}
 use Rattle.plane.specs.declared.rect.Rect64.{Rect64}
-use Rattle.plane.specs.Basics.{if_then_else_, none, upwards, Try, refuse, ok, _>>=_}
+use Rattle.plane.specs.Basics.{none, upwards, Try, refuse, ok, _>>=_}
 use Rattle.plane.specs.Points.{points-of, pt-at, origin}
 use Rattle.reference.specs.Walk.{Walked}
-use Rattle.reference.specs.Arena.{Arena, pt-of, owner-of, check-edges}
-use Rattle.reference.specs.Clip.{arena-of, get-paths, clip-walked}
-use Rattle.reference.specs.Entry.{Drawing, joined}
+use Rattle.reference.specs.Arena.{Arena, pt-of, owner-of, ring, check-edges}
+use Rattle.reference.specs.Clip.{enter-all, arena-of, get-paths, clip-walked}
 use Rattle.theorems.specs.Demand.{signedArea2}
 use Rattle.theorems.proofs.Holds.{holds-ok}
 use Rattle.theorems.proofs.ReadAll.{Whole, whole-some}
@@ -24,14 +23,13 @@ use Rattle.theorems.proofs.AreaKeeps.{four-met}
 use Rattle.rectclip.specs.declared.arena.Sizes.{Sizes}
 use Rattle.rectclip.specs.declared.clipping.Clipped.{Clipped}
 use Rattle.rectclip.specs.declared.outline.Outline.{Outline}
-use Rattle.rectclip.specs.Bounds.{Reached}
-use Rattle.rectclip.specs.Walking.{walk-of, Fits}
+use Rattle.rectclip.specs.Walking.{Fits}
 use Rattle.rectclip.specs.Arenas.{arena-at}
 use Rattle.rectclip.specs.Stored.{points-in, Drawn}
 use Rattle.rectclip.specs.Turns.{tidied-all}
 use Rattle.rectclip.specs.Paths.{straighten-results, nodes-read}
-use Rattle.rectclip.specs.Clipping.{Clipping, Straight, ClippedAs}
-use Rattle.rectclip.specs.Delivering.{walked-of, rings-left, drawing-left, Counted, Readable, Arranging, Arranged, OutlineClips}
+use Rattle.rectclip.specs.Clipping.{Clipping, ClippedAs}
+use Rattle.rectclip.specs.Delivering.{walked-of, rings-left, drawing-left, Readable, Arranging, Arranged, OutlineClips}
 use Rattle.rectclip.proofs.Adding.{walk-points, walk-length}
 use Rattle.rectclip.proofs.Coordinates.{points-length}
 use Rattle.rectclip.proofs.Spare.{spare-slots}
@@ -84,9 +82,6 @@ walk-drawn {store} {work} o F = record {
 }
 
 module _ {rect : Rect64} {A : ℕ} {store : List ℤ} {work : List ℕ} {o : Outline} (x : OutlineClips rect A store work o) where
-  abbrev slots : ℕ
-  slots = length store / 2 + A + 1
-
   abbrev w : Walked
   w = walked-of store work o
 
@@ -106,7 +101,7 @@ module _ {rect : Rect64} {A : ℕ} {store : List ℤ} {work : List ℕ} {o : Out
 
     arena-is : arena-of w ≡ arena-at m s
     unfolding arena-of
-    arena-is = sym (a .is ∙ (λ i. Rattle.reference.specs.Clip.enter-all (Rattle.reference.specs.Arena.ring (sym (walk-length (x .fits)) i)) (w .entered)))
+    arena-is = sym (a .is ∙ (λ i. enter-all (ring (sym (walk-length (x .fits)) i)) (w .entered)))
 
     module _ {m′ : List ℕ} (c : Clipped)
         (K : ClippedAs (points-in store (s .nodes)) m m′ s c (tidied-all (points-in store (s .nodes)) A (check-edges (points-in store (s .nodes)) rect (arena-at m s)))) where

@@ -7,19 +7,19 @@ use Rattle.rectclip.proofs.lists.clear_work.Statement.{statement}
 use Rattle.rectclip.proofs.lists.clear_work.Tie as tie
 
 abbrev Inv-loop : tie.InvT-loop
-Inv-loop list₀ i₀ list i = Cleared 0 list₀ list i
+Inv-loop work₀ i₀ work i = Cleared 0 work₀ work i
 
 abbrev μ-loop : tie.MeasureT-loop
-μ-loop list₀ i₀ list i = length list₀ - i
+μ-loop work₀ i₀ work i = length work₀ - i
 
 loop-holds : tie.Need-loop-holds Inv-loop μ-loop
 loop-holds c = cleared-none _ _
 
-mul-list : tie.Need-mul-list Inv-loop μ-loop
-mul-list c = search needs
+mul-work : tie.Need-mul-work Inv-loop μ-loop
+mul-work c = search needs
 
-slice-write-list : tie.Need-slice-write-list Inv-loop μ-loop
-slice-write-list c = search needs
+slice-write-work : tie.Need-slice-write-work Inv-loop μ-loop
+slice-write-work c = search needs
 
 add-i : tie.Need-add-i Inv-loop μ-loop
 add-i c = search needs
@@ -43,8 +43,8 @@ clear-work-spec =
     Inv-loop
     μ-loop
     loop-holds
-    mul-list
-    slice-write-list
+    mul-work
+    slice-write-work
     add-i
     loop-less
     loop-again
