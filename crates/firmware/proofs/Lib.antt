@@ -1,0 +1,6 @@
+-- Laws that the firmware's proofs cite.
+pub mod Bytes
+pub mod Signs
+pub mod Sending
+pub mod Clippers
+pub mod Exporting

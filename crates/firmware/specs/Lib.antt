@@ -1,0 +1,3 @@
+-- Words of the firmware's private functions.
+pub mod Words
+pub mod Sending
