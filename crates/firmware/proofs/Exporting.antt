@@ -84,7 +84,7 @@ module _ (bytes : List ℕ) where
         go false odd long most = rw (odd, long, most, whole .0) refl
 
 -- a call that is not refused early keeps the coordinate limit
-limits : (A : ℕ) (R : Rect64) (path : List ℤ) → early-refusal 256 A 8208 R path ≡ 0 → (rect-in-limit R ≡ true) × (all-in-limit path ≡ true)
+pub limits : (A : ℕ) (R : Rect64) (path : List ℤ) → early-refusal 256 A 8208 R path ≡ 0 → (rect-in-limit R ≡ true) × (all-in-limit path ≡ true)
 unfolding early-refusal sheet-refusal
 limits A R path e =
     let p1 = chosen (eqb (length path % 2) 1) 1 (omega arith) e in

@@ -4,3 +4,4 @@ pub mod Signs
 pub mod Sending
 pub mod Clippers
 pub mod Exporting
+pub mod ReadBack
