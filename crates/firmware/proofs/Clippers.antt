@@ -14,8 +14,8 @@ use Rattle.reference.specs.Walk.{no-room}
 use Rattle.reference.specs.Clip.{execute}
 use Rattle.reference.specs.Lines.{execute-lines}
 use Rattle.reference.specs.Entry.{Drawing, Lent, After, answered, early-refusal, clip-open, clip-closed}
-use Rattle.rectclip.specs.declared.answer.Answer.{Answer}
-use Rattle.rectclip.specs.Answers.{outcome}
+use Rattle.entry.specs.declared.answer.Answer.{Answer}
+use Rattle.entry.specs.Answers.{outcome}
 use Rattle.rectclip.specs.Promises.{lent, ClipsOpen}
 use Rattle.rectclip.specs.ClosedPromises.{ClipsClosed}
 use Rattle.firmware.specs.Sending.{drawing-of, called, Clipped}

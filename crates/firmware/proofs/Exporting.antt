@@ -26,8 +26,8 @@ use Rattle.theorems.specs.Demand.{is-walked}
 use Rattle.theorems.proofs.FewPoints.{few-points}
 use Rattle.theorems.proofs.FewResults.{few-results}
 use Rattle.theorems.proofs.FewLines.{few-lines}
-use Rattle.rectclip.specs.declared.answer.Answer.{Answer}
-use Rattle.rectclip.specs.Answers.{outcome}
+use Rattle.entry.specs.declared.answer.Answer.{Answer}
+use Rattle.entry.specs.Answers.{outcome}
 use Rattle.rectclip.specs.Promises.{lent}
 use Rattle.rectclip.proofs.Coordinates.{points-length}
 use Rattle.firmware.specs.Sending.{path-refusal, sent, Sendable, drawing-of, Clipped}

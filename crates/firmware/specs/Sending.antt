@@ -14,8 +14,8 @@ use Rattle.reference.specs.Lines.{execute-lines}
 use Rattle.reference.specs.Clip.{execute}
 use Rattle.reference.specs.Entry.{Drawing, Outcome, refused, drawn, Lent, After, answered, early-refusal, filled}
 use Rattle.reference.specs.Exported.{Bytes, bits, words}
-use Rattle.rectclip.specs.declared.answer.Answer.{Answer}
-use Rattle.rectclip.specs.Answers.{outcome}
+use Rattle.entry.specs.declared.answer.Answer.{Answer}
+use Rattle.entry.specs.Answers.{outcome}
 use Rattle.rectclip.specs.Promises.{lent}
 
 -- what a path's bytes alone are refused for

@@ -15,11 +15,11 @@ use Rattle.reference.specs.Entry.{is-present, filled, Outcome, refused, drawn, 
 use Rattle.reference.specs.Clip.{execute}
 use Rattle.reference.specs.Lines.{execute-lines}
 use Rattle.reference.specs.Walk.{no-room}
-use Rattle.rectclip.specs.declared.answer.Presence.{Presence}
-use Rattle.rectclip.specs.declared.answer.Refusal.{Refusal}
-use Rattle.rectclip.specs.declared.answer.Refusal.the-variants.{OddCoordinates, StoreTooLong, AllowanceTooLarge, WorkTooShort, PathTooLong, RectangleOutside, PathOutside, StoreFull, CrossingLost, TurnsSpent, ListsTooShort, UnreadableLine}
-use Rattle.rectclip.specs.declared.answer.Answer.{Answer}
-use Rattle.rectclip.specs.Answers.{presence, number, outcome}
+use Rattle.entry.specs.declared.answer.Presence.{Presence}
+use Rattle.entry.specs.declared.answer.Refusal.{Refusal}
+use Rattle.entry.specs.declared.answer.Refusal.the-variants.{OddCoordinates, StoreTooLong, AllowanceTooLarge, WorkTooShort, PathTooLong, RectangleOutside, PathOutside, StoreFull, CrossingLost, TurnsSpent, ListsTooShort, UnreadableLine}
+use Rattle.entry.specs.declared.answer.Answer.{Answer}
+use Rattle.entry.specs.Answers.{presence, number, outcome}
 use Rattle.rectclip.specs.Promises.{lent, ClipsOpen}
 use Rattle.rectclip.specs.ClosedPromises.{ClipsClosed}
 use Rattle.harness.specs.Values.{presence-value, Exported, counted-by, counted, uncounted-value, Counted, Hands}

@@ -5,14 +5,14 @@ ghost use Rattle.reference.specs.Entry.{clip-open, clip-closed, is-present};
 ghost use Rattle.rectclip.specs.Promises.{lent};
 ghost use Prim.Native.Nat.{_≤_};
 ghost use lib.ListN.{length};
-ghost use Rattle.rectclip.specs.Answers.{number, outcome};
+ghost use Rattle.entry.specs.Answers.{number, outcome};
 ghost use Rattle.harness.specs.Values.{presence-value, uncounted-value, counted, Counted, Hands};
+use entry::answer::Answer;
+use entry::answer::Presence;
+use entry::answer::Refusal;
+use entry::present::present;
 use plane::rect::Rect64;
-use rectclip::answer::Answer;
-use rectclip::answer::Presence;
-use rectclip::answer::Refusal;
 use rectclip::lines::RectClipLines64;
-use rectclip::present::present;
 use rectclip::rect_clip::RectClip64;
 
 // Document 01's number of a refusal.

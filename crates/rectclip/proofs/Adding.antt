@@ -17,8 +17,8 @@ use Rattle.plane.specs.declared.location.Location.{Location}
 use Rattle.plane.specs.Basics.{is-nil, push, Try, refuse, ok}
 use Rattle.plane.specs.Points.{origin, same-point, pt-at, points-of}
 use Rattle.reference.specs.Walk.{Walk, no-room, add}
-use Rattle.rectclip.specs.declared.answer.Refusal.{Refusal}
-use Rattle.rectclip.specs.declared.answer.Refusal.the-variants.{StoreFull}
+use Rattle.entry.specs.declared.answer.Refusal.{Refusal}
+use Rattle.entry.specs.declared.answer.Refusal.the-variants.{StoreFull}
 use Rattle.rectclip.specs.declared.walk.WalkState.{WalkState}
 use Rattle.rectclip.specs.declared.walk.Step.{Step}
 use Rattle.rectclip.specs.declared.walk.Step.the-variants.{Walked, Refused}

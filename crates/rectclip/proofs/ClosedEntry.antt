@@ -24,13 +24,13 @@ use Rattle.theorems.proofs.Entering.{entry-found}
 use Rattle.theorems.proofs.ClosedArea.{walked-not-empty}
 use Rattle.theorems.proofs.FewPoints.{few-points}
 use Rattle.theorems.proofs.FewResults.{few-results}
-use Rattle.rectclip.specs.declared.answer.Answer.{Answer}
-use Rattle.rectclip.specs.declared.answer.Answer.the-variants as answer
-use Rattle.rectclip.specs.declared.answer.Refusal.{Refusal}
+use Rattle.entry.specs.declared.answer.Answer.{Answer}
+use Rattle.entry.specs.declared.answer.Answer.the-variants as answer
+use Rattle.entry.specs.declared.answer.Refusal.{Refusal}
 use Rattle.rectclip.specs.declared.outline.Outline.{Outline}
 use Rattle.rectclip.specs.declared.outline.Outlined.{Outlined}
 use Rattle.rectclip.specs.declared.outline.Outlined.the-variants.{Done, Refused}
-use Rattle.rectclip.specs.Answers.{number}
+use Rattle.entry.specs.Answers.{number}
 use Rattle.rectclip.specs.Outlining.{Drawn, Walks}
 use Rattle.rectclip.specs.Delivering.{walked-of, walk-drawing, Gives, OutlineClips, WalkClips, Clippable}
 use Rattle.rectclip.proofs.Coordinates.{points-length}

@@ -23,8 +23,8 @@ use Rattle.plane.specs.Points.{same-point, pt-at, points-of}
 use Rattle.plane.specs.Rectangle.{mid-point, get-location}
 use Rattle.plane.specs.Signs.{is-clockwise-dir}
 use Rattle.reference.specs.Walk.{no-room, add, push-start-loc, push-start-locs, add-corners, add-corner-prev-curr, remain-outside, enter, pass-to, pass-through, leave, cross-boundary, pt-before}
-use Rattle.rectclip.specs.declared.answer.Refusal.{Refusal}
-use Rattle.rectclip.specs.declared.answer.Refusal.the-variants.{CrossingLost}
+use Rattle.entry.specs.declared.answer.Refusal.{Refusal}
+use Rattle.entry.specs.declared.answer.Refusal.the-variants.{CrossingLost}
 use Rattle.rectclip.specs.declared.walk.WalkState.{WalkState}
 use Rattle.rectclip.specs.declared.walk.Step.{Step}
 use Rattle.rectclip.specs.declared.walk.Step.the-variants.{Walked}

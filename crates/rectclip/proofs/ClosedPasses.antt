@@ -17,8 +17,8 @@ use Rattle.plane.specs.Intersection.{get-intersection}
 use Rattle.plane.specs.Limit.{Limited}
 use Rattle.plane.specs.Points.{pt-at, points-of}
 use Rattle.reference.specs.Walk.{Walk, Next, State, remain-outside, cross-boundary, pt-before, pass-from, passes, get-next-location}
-use Rattle.rectclip.specs.declared.answer.Refusal.{Refusal}
-use Rattle.rectclip.specs.Answers.{number}
+use Rattle.entry.specs.declared.answer.Refusal.{Refusal}
+use Rattle.entry.specs.Answers.{number}
 use Rattle.rectclip.specs.declared.walk.Step.the-variants.{Walked}
 use Rattle.rectclip.specs.declared.next.NextState.{NextState}
 use Rattle.rectclip.specs.declared.next.Move.{Move}

@@ -18,7 +18,7 @@ use Rattle.plane.specs.Locations.{is-inside}
 use Rattle.plane.specs.Points.{pt-at, points-of}
 use Rattle.plane.specs.Rectangle.{get-location}
 use Rattle.reference.specs.Walk.{Walk, State, nothing-yet, add-all, last-off, passes, after-while, walk-from, walk-closed}
-use Rattle.rectclip.specs.declared.answer.Refusal.{Refusal}
+use Rattle.entry.specs.declared.answer.Refusal.{Refusal}
 use Rattle.rectclip.specs.declared.walk.WalkState.{WalkState}
 use Rattle.rectclip.specs.declared.walk.Step.{Step}
 use Rattle.rectclip.specs.declared.walk.Step.the-variants.{Walked}

@@ -13,10 +13,10 @@ use lib.Seq.{take-at}
 use Rattle.plane.specs.declared.point.Point64.{Point64}
 use Rattle.plane.specs.Points.{points-of, coordinates-of}
 use Rattle.reference.specs.Entry.{Drawing, Lent, After, joined, filled, delivered, filled-part}
-use Rattle.rectclip.specs.declared.answer.Answer.{Answer}
-use Rattle.rectclip.specs.declared.answer.Answer.the-variants as answer
-use Rattle.rectclip.specs.declared.answer.Counts.{Counts}
-use Rattle.rectclip.specs.declared.answer.Refusal.the-variants.{ListsTooShort}
+use Rattle.entry.specs.declared.answer.Answer.{Answer}
+use Rattle.entry.specs.declared.answer.Answer.the-variants as answer
+use Rattle.entry.specs.declared.answer.Counts.{Counts}
+use Rattle.entry.specs.declared.answer.Refusal.the-variants.{ListsTooShort}
 use Rattle.rectclip.specs.declared.pieces.Tally.{Tally}
 use Rattle.rectclip.specs.declared.walk.WalkState.{WalkState}
 use Rattle.rectclip.specs.Walking.{walk-of, Fits}
@@ -81,12 +81,3 @@ module _ {store : List ℤ} {work : List ℕ} {s : WalkState} (F : Fits store wo
 
     pub counts-fit : (t .paths < 4294967296) × (t .points < 4294967296)
     counts-fit = (omega (arith, T .few, F .starts, F .points, F .few), omega (arith, T .within, F .points, F .few))
-
--- ---- the filled part, as the code tests it: half the length against the number of points
-pub part-held : (coordinates : List ℤ) (points : ℕ) → points ≤ length coordinates / 2 → take (2 * points) coordinates ≡ filled-part coordinates points
-unfolding filled-part
-part-held coordinates points h = rw (le-leb (2 * points) (length coordinates) (omega arith)) refl
-
-pub part-none : (coordinates : List ℤ) (points : ℕ) → length coordinates / 2 < points → take 0 coordinates ≡ filled-part coordinates points
-unfolding filled-part
-part-none coordinates points h = rw (lt-leb (2 * points) (length coordinates) (omega arith)) refl

@@ -11,13 +11,13 @@ use Rattle.plane.specs.declared.point.Point64.{Point64}
 use Rattle.plane.specs.Basics.{Try, refuse, ok}
 use Rattle.plane.specs.Points.{points-of, coordinates-of}
 use Rattle.reference.specs.Entry.{Drawing, joined, filled}
-use Rattle.rectclip.specs.declared.answer.Answer.{Answer}
-use Rattle.rectclip.specs.declared.answer.Answer.the-variants as answer
-use Rattle.rectclip.specs.declared.answer.Refusal.{Refusal}
-use Rattle.rectclip.specs.declared.answer.Refusal.the-variants.{TurnsSpent, ListsTooShort}
+use Rattle.entry.specs.declared.answer.Answer.{Answer}
+use Rattle.entry.specs.declared.answer.Answer.the-variants as answer
+use Rattle.entry.specs.declared.answer.Refusal.{Refusal}
+use Rattle.entry.specs.declared.answer.Refusal.the-variants.{TurnsSpent, ListsTooShort}
 use Rattle.rectclip.specs.declared.clipping.Clipped.{Clipped}
 use Rattle.rectclip.specs.declared.paths.Counts.{Counts}
-use Rattle.rectclip.specs.Answers.{number}
+use Rattle.entry.specs.Answers.{number}
 use Rattle.rectclip.specs.Stored.{points-in}
 use Rattle.rectclip.specs.Pieces.{Copies, Copied}
 use Rattle.rectclip.specs.Paths.{Writing, Written, nothing-yet}

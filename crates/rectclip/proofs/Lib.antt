@@ -18,8 +18,6 @@ pub mod RectPath
 pub mod Outlining
 pub mod ClosedWalk
 pub mod Searches
-pub mod PathBounds
-pub mod Sheets
 pub mod Scans
 pub mod ScanSteps
 pub mod ScanPasses
@@ -34,6 +32,7 @@ pub mod Opening
 pub mod Results
 pub mod Writing
 pub mod Delivering
+pub mod Calling
 pub mod Entering
 pub mod Arenas
 pub mod Ranges

@@ -21,7 +21,7 @@ use Rattle.plane.specs.Points.{pt-at, points-of}
 use Rattle.plane.specs.Rectangle.{get-location}
 use Rattle.reference.specs.Walk.{Walk, Next, no-room, nothing-yet, add, add-all}
 use Rattle.reference.specs.Lines.{first-off-edge, line-passes, line-walk-from, walk-open}
-use Rattle.rectclip.specs.declared.answer.Refusal.{Refusal}
+use Rattle.entry.specs.declared.answer.Refusal.{Refusal}
 use Rattle.rectclip.specs.declared.walk.WalkState.{WalkState}
 use Rattle.rectclip.specs.declared.walk.Step.{Step}
 use Rattle.rectclip.specs.declared.walk.Step.the-variants.{Walked, Refused}

@@ -15,7 +15,7 @@ use Rattle.plane.specs.Points.{points-of}
 use Rattle.plane.specs.Rectangle.{is-empty}
 use Rattle.reference.specs.Walk.{Walk, State, add-all, add-round, retrace, add-corner-loc, close-outline, surround, after-while}
 use Rattle.reference.specs.Walk as def
-use Rattle.rectclip.specs.declared.answer.Refusal.{Refusal}
+use Rattle.entry.specs.declared.answer.Refusal.{Refusal}
 use Rattle.rectclip.specs.declared.walk.WalkState.{WalkState}
 use Rattle.rectclip.specs.declared.walk.Step.{Step}
 use Rattle.rectclip.specs.declared.walk.Step.the-variants.{Walked}
@@ -26,7 +26,7 @@ use Rattle.rectclip.specs.declared.outline.Round.the-variants.{Never}
 use Rattle.rectclip.specs.declared.outline.Outline.{Outline}
 use Rattle.rectclip.specs.declared.outline.Outlined.{Outlined}
 use Rattle.rectclip.specs.declared.outline.Outlined.the-variants.{Done, Refused}
-use Rattle.rectclip.specs.Answers.{number}
+use Rattle.entry.specs.Answers.{number}
 use Rattle.rectclip.specs.Walking.{walk-of, turned, Fits, Stepped}
 use Rattle.rectclip.specs.Closing.{closed-state-of}
 use Rattle.rectclip.specs.Outlining.{entered-of, entries, outlined, outline-of, round-of, round-corners, path-contains, corner-toward, close-walk, Drawn}

@@ -22,8 +22,8 @@ use Rattle.plane.specs.Points.{origin, pt-at, points-of}
 use Rattle.plane.specs.Rectangle.{get-location}
 use Rattle.reference.specs.Walk.{Walk, Next, no-room, add, get-next-location}
 use Rattle.reference.specs.Lines.{first-off-edge, line-through, line-cross, line-from, line-passes}
-use Rattle.rectclip.specs.declared.answer.Refusal.{Refusal}
-use Rattle.rectclip.specs.Answers.{number}
+use Rattle.entry.specs.declared.answer.Refusal.{Refusal}
+use Rattle.entry.specs.Answers.{number}
 use Rattle.rectclip.specs.declared.walk.WalkState.{WalkState}
 use Rattle.rectclip.specs.declared.walk.Step.{Step}
 use Rattle.rectclip.specs.declared.walk.Step.the-variants.{Walked, Refused}

@@ -16,7 +16,7 @@ use Rattle.plane.specs.declared.location.Location.the-variants.{Inside}
 use Rattle.plane.specs.Basics.{Try, refuse, ok, _>>=_}
 use Rattle.plane.specs.Locations.{side-number, same-location, heading-clockwise}
 use Rattle.reference.specs.Walk.{Walk, State, add, add-corner-loc, retrace}
-use Rattle.rectclip.specs.declared.answer.Refusal.{Refusal}
+use Rattle.entry.specs.declared.answer.Refusal.{Refusal}
 use Rattle.rectclip.specs.declared.walk.WalkState.{WalkState}
 use Rattle.rectclip.specs.declared.walk.Step.{Step}
 use Rattle.rectclip.specs.declared.walk.Step.the-variants.{Walked, Refused}

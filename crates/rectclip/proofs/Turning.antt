@@ -17,9 +17,9 @@ use Rattle.plane.specs.Basics.{Try, refuse, ok, _>>=_, push}
 use Rattle.plane.specs.Locations.{side-number, same-location, get-adjacent-location}
 use Rattle.plane.specs.Points.{origin, pt-at, points-of}
 use Rattle.reference.specs.Walk.{Walk, no-room, add, add-all, push-start-loc, push-start-locs, add-corner-loc, add-corners}
-use Rattle.rectclip.specs.declared.answer.Refusal.{Refusal}
-use Rattle.rectclip.specs.declared.answer.Refusal.the-variants.{StoreFull}
-use Rattle.rectclip.specs.Answers.{number}
+use Rattle.entry.specs.declared.answer.Refusal.{Refusal}
+use Rattle.entry.specs.declared.answer.Refusal.the-variants.{StoreFull}
+use Rattle.entry.specs.Answers.{number}
 use Rattle.rectclip.specs.declared.walk.WalkState.{WalkState}
 use Rattle.rectclip.specs.declared.walk.Step.{Step}
 use Rattle.rectclip.specs.declared.walk.Step.the-variants.{Walked, Refused}

@@ -7,8 +7,8 @@ use lib.IntN.{ℤ}
 use lib.ListN.{length}
 use Rattle.plane.specs.Basics.{Try, refuse, ok, _>>=_}
 use Rattle.reference.specs.Walk.{Walk, Next}
-use Rattle.rectclip.specs.declared.answer.Refusal.{Refusal}
-use Rattle.rectclip.specs.Answers.{number}
+use Rattle.entry.specs.declared.answer.Refusal.{Refusal}
+use Rattle.entry.specs.Answers.{number}
 use Rattle.rectclip.specs.declared.walk.WalkState.{WalkState}
 use Rattle.rectclip.specs.declared.walk.Step.{Step}
 use Rattle.rectclip.specs.declared.walk.Step.the-variants.{Walked, Refused}

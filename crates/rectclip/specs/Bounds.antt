@@ -7,7 +7,7 @@ use Rattle.plane.specs.Points.{points-of, pt-at}
 use mathlib.Core.Path.{_≡_}
 use mathlib.Core.Bool.{false}
 use Rattle.plane.specs.Limit.{Limited}
-use Rattle.plane.specs.Rectangle.{is-empty, get-bounds-path}
+use Rattle.plane.specs.Rectangle.{is-empty}
 use Rattle.theorems.specs.Demand.{AtMostOneOutside}
 use Rattle.theorems.proofs.Demand.{LimitedRect}
 use Rattle.plane.specs.declared.crossing.Search.{Search}
@@ -37,11 +37,6 @@ pub record SearchLimits (r : Rect64) (p p2 : Point64) : Type 0 where
 pub record InReach (r : Rect64) (s : Search) : Type 0 where
   pub outside : is-empty r ≡ false → (q : Point64) (loc : Location) → s ≡ Found q loc → AtMostOneOutside r q
   pub reached : is-empty r ≡ false → (q : Point64) (loc : Location) → s ≡ Found q loc → Reached q
-
--- coordinates in pairs, and their bounds
-pub record Surveyed (coords : List ℤ) (bounds : Rect64) : Type 0 where
-  pub even : length coords % 2 ≡ 0
-  pub bound : bounds ≡ get-bounds-path (points-of coords)
 
 -- a polygon's coordinates, and the point that it is asked about, are within reach
 pub record Vertices (pt : Point64) (coords : List ℤ) : Type 0 where

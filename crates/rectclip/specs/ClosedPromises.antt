@@ -9,10 +9,10 @@ use Rattle.plane.specs.declared.rect.Rect64.{Rect64}
 use Rattle.plane.specs.Points.{points-of}
 use Rattle.theorems.specs.Demand.{AreaKept}
 use Rattle.reference.specs.Entry.{Lent, clip-closed}
-use Rattle.rectclip.specs.declared.answer.Answer.{Answer}
-use Rattle.rectclip.specs.declared.answer.Answer.the-variants.{Drawn}
-use Rattle.rectclip.specs.declared.answer.Counts.{Counts}
-use Rattle.rectclip.specs.Answers.{outcome}
+use Rattle.entry.specs.declared.answer.Answer.{Answer}
+use Rattle.entry.specs.declared.answer.Answer.the-variants.{Drawn}
+use Rattle.entry.specs.declared.answer.Counts.{Counts}
+use Rattle.entry.specs.Answers.{outcome}
 use Rattle.rectclip.specs.Promises.{Returned}
 
 -- the returned paths, of which each point has its source; of a path that is walked, their areas add up to the walked outline's

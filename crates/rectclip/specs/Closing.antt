@@ -24,7 +24,7 @@ use Rattle.rectclip.specs.declared.closed.ClosedState.{ClosedState}
 use Rattle.rectclip.specs.declared.closed.Pass.{Pass}
 use Rattle.rectclip.specs.declared.closed.Advance.{Advance}
 use Rattle.rectclip.specs.declared.closed.Advance.the-variants.{On, Refused}
-use Rattle.rectclip.specs.Answers.{number}
+use Rattle.entry.specs.Answers.{number}
 use Rattle.rectclip.specs.Bounds.{Reached}
 use Rattle.rectclip.specs.Walking.{walk-of, AddsCorners, Fits}
 

@@ -19,7 +19,7 @@ use Rattle.reference.specs.Clip.{enter-all, clip-walked}
 use Rattle.reference.specs.Entry.{Drawing, joined, answered}
 use Rattle.theorems.specs.Demand.{is-walked}
 use Rattle.theorems.proofs.WalkArena.{Entered}
-use Rattle.rectclip.specs.declared.answer.Answer.{Answer}
+use Rattle.entry.specs.declared.answer.Answer.{Answer}
 use Rattle.rectclip.specs.declared.arena.Sizes.{Sizes}
 use Rattle.rectclip.specs.declared.clipping.Clipped.{Clipped}
 use Rattle.rectclip.specs.declared.outline.Outline.{Outline}

@@ -1,5 +1,4 @@
 -- Words of the private functions' contracts, and the answers of the public ones.
-pub mod Answers
 pub mod Bounds
 pub mod Parted
 pub mod Memory

@@ -19,7 +19,7 @@ use Rattle.rectclip.specs.declared.next.ScanEnd.{ScanEnd}
 use Rattle.rectclip.specs.declared.next.NextState.{NextState}
 use Rattle.rectclip.specs.declared.next.Move.{Move}
 use Rattle.rectclip.specs.declared.next.Move.the-variants.{To, Stopped}
-use Rattle.rectclip.specs.Answers.{number}
+use Rattle.entry.specs.Answers.{number}
 use Rattle.rectclip.specs.Walking.{walk-of, Fits, Sheet}
 
 -- ---- the line of a side: a bound on x, at offset 0, or y, at offset 1

@@ -27,7 +27,7 @@ use Rattle.rectclip.specs.declared.outline.Outline.{Outline}
 use Rattle.rectclip.specs.declared.outline.Outlined.{Outlined}
 use Rattle.rectclip.specs.declared.outline.Outlined.the-variants.{Done, Refused}
 use Rattle.rectclip.specs.declared.outline.Turns.{Turns}
-use Rattle.rectclip.specs.Answers.{number}
+use Rattle.entry.specs.Answers.{number}
 use Rattle.rectclip.specs.Memory.{Room}
 use Rattle.rectclip.specs.Walking.{walk-of, turned, Fits, Sheet}
 

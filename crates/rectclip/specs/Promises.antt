@@ -15,10 +15,10 @@ use Rattle.theorems.specs.Demand.{Sourced}
 use Rattle.reference.specs.Entry.{Drawing, Lent, After, joined, delivered, answered, clip-open, filled-part}
 use Rattle.reference.specs.Lines.{execute-lines}
 use Rattle.reference.specs.Walk.{no-room}
-use Rattle.rectclip.specs.declared.answer.Answer.{Answer}
-use Rattle.rectclip.specs.declared.answer.Answer.the-variants.{Drawn}
-use Rattle.rectclip.specs.declared.answer.Counts.{Counts}
-use Rattle.rectclip.specs.Answers.{outcome}
+use Rattle.entry.specs.declared.answer.Answer.{Answer}
+use Rattle.entry.specs.declared.answer.Answer.the-variants.{Drawn}
+use Rattle.entry.specs.declared.answer.Counts.{Counts}
+use Rattle.entry.specs.Answers.{outcome}
 use Rattle.rectclip.specs.Memory.{Room}
 
 -- four lists lent by the caller
@@ -40,11 +40,6 @@ pub record ClipsOpen (rect : Rect64) (path : List ℤ) (before : Lent) (r : Answ
   pub store : after .store ≡ clip-open rect path before .lists .store
   pub work : after .work ≡ clip-open rect path before .lists .work
   pub returned : (c : Counts) → r ≡ Drawn c → Returned false rect path c after
-
--- `filled`: the part is the definition's, and it is the front of the caller's own list, at that list's address
-pub record FilledPart {A : Type 0} (coordinates : List ℤ) (address : A) (points : ℕ) (part : List ℤ) (place : A) : Type 0 where
-  pub entries : part ≡ filled-part coordinates points
-  pub own : place ≡ address
 
 -- ---- words of the private functions
 -- the answer and the two lists that are filled are those of a definition's call

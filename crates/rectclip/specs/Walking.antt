@@ -18,7 +18,7 @@ use Rattle.reference.specs.Walk.{Walk}
 use Rattle.rectclip.specs.declared.walk.WalkState.{WalkState}
 use Rattle.rectclip.specs.declared.walk.Step.{Step}
 use Rattle.rectclip.specs.declared.walk.Step.the-variants.{Walked, Refused}
-use Rattle.rectclip.specs.Answers.{number}
+use Rattle.entry.specs.Answers.{number}
 use Rattle.rectclip.specs.Bounds.{Reached}
 use Rattle.rectclip.specs.Memory.{at, Room, column}
 

@@ -11,7 +11,6 @@ ghost use Rattle.reference.specs.Walk.{no-room, remain-outside, enter, pass-to,
 ghost use Rattle.rectclip.specs.Walking.{walk-of, Adds, AddsCorners, Fits, Stepped};
 ghost use Rattle.rectclip.specs.Moving.{next-of, Moves};
 ghost use Rattle.rectclip.specs.Closing.{closed-state-of, pass-of, advance-of, moves-on, first-of, enter-corners, pass-corner, pass-start, pass-in, pass-out, one-pass, Closes, Passing, Crossed, Passes, Exits, Advanced};
-use crate::answer::Refusal;
 use crate::corners::add_corner_prev_curr;
 use crate::corners::add_corners;
 use crate::corners::push_start_locs;
@@ -25,6 +24,7 @@ use crate::walk::Step;
 use crate::walk::WalkState;
 use crate::walk::add;
 use crate::walk::push_start_loc;
+use entry::answer::Refusal;
 use plane::crossing::Search;
 use plane::location::Location;
 use plane::point::Point64;

@@ -3,12 +3,12 @@ ghost use Rattle.plane.specs.Basics.{ok};
 ghost use Rattle.plane.specs.Points.{points-of};
 ghost use mathlib.Core.List.{[], _∷_};
 ghost use Rattle.rectclip.specs.Delivering.{drawing-left, Readable, Copyable, Gives};
-use crate::answer::Answer;
-use crate::answer::Counts;
-use crate::answer::Refusal;
 use crate::clipping::Clipped;
 use crate::paths::read_paths;
 use crate::pieces::copy_points;
+use entry::answer::Answer;
+use entry::answer::Counts;
+use entry::answer::Refusal;
 
 // What the clipper left is handed out, or refusal 10 or 11.
 pub(crate) fn deliver_paths(

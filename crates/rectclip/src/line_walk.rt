@@ -9,7 +9,6 @@ ghost use Rattle.reference.specs.Lines.{first-off-edge, line-through, line-cros
 ghost use Rattle.rectclip.specs.Walking.{walk-of, Stepped};
 ghost use Rattle.rectclip.specs.Moving.{next-of, Moved};
 ghost use Rattle.rectclip.specs.Crossing.{move-of, step-of, one-pass, first-point, Crosses, PassFrom, Starts, Ready, Walkable};
-use crate::answer::Refusal;
 use crate::lists::point_at;
 use crate::next::Move;
 use crate::next::NextState;
@@ -19,6 +18,7 @@ use crate::walk::Step;
 use crate::walk::WalkState;
 use crate::walk::add;
 use crate::walk::add_all;
+use entry::answer::Refusal;
 use plane::crossing::Search;
 use plane::location::Location;
 use plane::point::Point64;

@@ -6,19 +6,18 @@ ghost use Rattle.reference.specs.Entry.{answered};
 ghost use Rattle.rectclip.specs.Walking.{walk-of, Fits};
 ghost use Rattle.rectclip.specs.Pieces.{paths-of};
 ghost use Rattle.rectclip.specs.Promises.{lent, line-drawing, ClipsOpen, Leaves, Delivers, Drawable};
-use crate::answer::Answer;
-use crate::answer::Check;
-use crate::answer::Counts;
-use crate::answer::Refusal;
 use crate::line_walk::line_walk;
 use crate::lists::clear_store;
 use crate::lists::clear_work;
 use crate::pieces::count_pieces;
 use crate::pieces::write_pieces;
-use crate::refusals::early_refusal;
-use crate::survey::get_bounds_path;
 use crate::walk::Step;
 use crate::walk::WalkState;
+use entry::admission::Admission;
+use entry::admission::admit;
+use entry::answer::Answer;
+use entry::answer::Counts;
+use entry::answer::Refusal;
 use plane::rect::Rect64;
 
 // The clipper of open paths, for one rectangle.
@@ -110,14 +109,14 @@ impl RectClipLines64 {
         ensures { λ r. ⌜ ClipsOpen (self .rect) (now (path .entry)) (lent (now (coordinates .entry)) (now (lengths .entry)) (now (store .entry)) (now (work .entry))) r (lent (now (coordinates .exit)) (now (lengths .exit)) (now (store .exit)) (now (work .exit))) ⌝ }
     {
         let rect = self.rect;
-        let bounds = get_bounds_path(path);
-        let check = early_refusal(rect, path, bounds, store.len() / 2, 0, work.len());
-        if let Check::Refused(why) = check {
-            return Answer::Refused(why);
+        match admit(rect, path, store.len() / 2, 0, work.len()) {
+            Admission::Refused(why) => Answer::Refused(why),
+            Admission::Admitted(bounds) => {
+                let answer = draw_lines(rect, path, bounds, store, work, coordinates, lengths);
+                clear_store(store);
+                clear_work(work);
+                answer
+            }
         }
-        let answer = draw_lines(rect, path, bounds, store, work, coordinates, lengths);
-        clear_store(store);
-        clear_work(work);
-        answer
     }
 }

@@ -8,8 +8,6 @@ ghost use Rattle.reference.specs.Clip.{clip-walked, execute};
 ghost use Rattle.rectclip.specs.Promises.{lent};
 ghost use Rattle.rectclip.specs.ClosedPromises.{ClipsClosed};
 ghost use Rattle.rectclip.specs.Delivering.{walked-of, walk-drawing, Gives, OutlineClips, WalkClips, Clippable};
-use crate::answer::Answer;
-use crate::answer::Check;
 use crate::clipping::clip_walked;
 use crate::deliver::deliver_copy;
 use crate::deliver::deliver_paths;
@@ -19,9 +17,10 @@ use crate::lists::clear_work;
 use crate::outline::Outline;
 use crate::outline::Outlined;
 use crate::outline::walk_closed;
-use crate::refusals::early_refusal;
-use crate::survey::get_bounds_path;
 use crate::walked::walked_arena;
+use entry::admission::Admission;
+use entry::admission::admit;
+use entry::answer::Answer;
 use plane::rect::Rect64;
 
 // The clipper of closed paths, for one rectangle.
@@ -120,14 +119,23 @@ impl RectClip64 {
     {
         let rect = self.rect;
         let most = allowance as usize;
-        let bounds = get_bounds_path(path);
-        let check = early_refusal(rect, path, bounds, store.len() / 2, most, work.len());
-        if let Check::Refused(why) = check {
-            return Answer::Refused(why);
+        match admit(rect, path, store.len() / 2, most, work.len()) {
+            Admission::Refused(why) => Answer::Refused(why),
+            Admission::Admitted(bounds) => {
+                let answer = draw_closed(
+                    rect,
+                    path,
+                    bounds,
+                    most,
+                    store,
+                    work,
+                    coordinates,
+                    lengths,
+                );
+                clear_store(store);
+                clear_work(work);
+                answer
+            }
         }
-        let answer = draw_closed(rect, path, bounds, most, store, work, coordinates, lengths);
-        clear_store(store);
-        clear_work(work);
-        answer
     }
 }

@@ -7,12 +7,12 @@ ghost use lib.ListN.{length};
 ghost use Rattle.plane.specs.Points.{points-of};
 ghost use Rattle.reference.specs.Walk.{no-room, add, add-all, push-start-loc};
 ghost use Rattle.rectclip.specs.Walking.{walk-of, Fits, Adds, AddsAll, Stepped};
-use crate::answer::Refusal;
 use crate::lists::RESULT;
 use crate::lists::START_LOC;
 use crate::lists::point_at;
 use crate::lists::put_point;
 use crate::lists::store as store_field;
+use entry::answer::Refusal;
 use plane::location::Location;
 use plane::point::Point64;
 

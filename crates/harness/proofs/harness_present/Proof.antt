@@ -6,7 +6,7 @@ use mir.Facts.{toZ-ofZ}
 use Rattle.plane.specs.Rectangle.{rect}
 use Prim.Native.Nat.{_+_}
 use native.Mathlib.Omega.{arith}
-use Rattle.rectclip.specs.declared.answer.Presence.the-variants.{Refused, Present, Absent}
+use Rattle.entry.specs.declared.answer.Presence.the-variants.{Refused, Present, Absent}
 use Rattle.harness.proofs.Handing.{present-value, number-small}
 use borrow.Author.Needs.{needs}
 use Rattle.harness.proofs.harness_present.Statement.{statement}

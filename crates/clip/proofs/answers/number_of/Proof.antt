@@ -1,8 +1,8 @@
 -- `clip::answers::number_of` meets its contract: each case has the number of the definition. Assumes nothing.
 use mathlib.Core.Path.{_≡_, sym, ap}
 use lib.IntN.{pos}
-use Rattle.rectclip.specs.Answers.{number}
-use Rattle.rectclip.specs.declared.answer.Refusal.{Refusal}
+use Rattle.entry.specs.Answers.{number}
+use Rattle.entry.specs.declared.answer.Refusal.{Refusal}
 use borrow.Author.Needs.{needs}
 use Rattle.clip.proofs.answers.number_of.Statement.{statement}
 use Rattle.clip.proofs.answers.number_of.Tie as tie

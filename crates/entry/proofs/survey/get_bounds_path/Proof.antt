@@ -11,9 +11,9 @@ use mir.Facts.{toZ-ofZ}
 use Rattle.plane.specs.Points.{points-of}
 use Rattle.plane.specs.Rectangle.{bounds-from, get-bounds-path}
 use Rattle.plane.specs.declared.rect.Rect64.{Rect64}
-use Rattle.rectclip.proofs.PathBounds.{grow-step, grow-short}
-use Rattle.rectclip.proofs.survey.get_bounds_path.Statement.{statement}
-use Rattle.rectclip.proofs.survey.get_bounds_path.Tie as tie
+use Rattle.entry.proofs.PathBounds.{grow-step, grow-short}
+use Rattle.entry.proofs.survey.get_bounds_path.Statement.{statement}
+use Rattle.entry.proofs.survey.get_bounds_path.Tie as tie
 
 abbrev Inv-loop : tie.InvT-loop
 Inv-loop path bounds₀ i₀ bounds i = (bounds-from bounds (points-of (drop i path)) ≡ get-bounds-path (points-of path)) × (i ≤ length path)

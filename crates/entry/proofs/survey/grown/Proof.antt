@@ -3,8 +3,8 @@ use mir.Syntax.{w64}
 use mir.Val.{SFits}
 use Rattle.integers.specs.Tests.{plain, back}
 use borrow.Author.Needs.{needs}
-use Rattle.rectclip.proofs.survey.grown.Statement.{statement}
-use Rattle.rectclip.proofs.survey.grown.Tie as tie
+use Rattle.entry.proofs.survey.grown.Statement.{statement}
+use Rattle.entry.proofs.survey.grown.Tie as tie
 
 known : (s : tie.Start) → SFits w64 (s .args .s .left) × SFits w64 (s .args .s .top) × SFits w64 (s .args .s .right) × SFits w64 (s .args .s .bottom) × SFits w64 (s .args .p .x) × SFits w64 (s .args .p .y)
 known s = search needs

@@ -13,9 +13,9 @@ use Rattle.plane.specs.Points.{points-of}
 use Rattle.plane.specs.Rectangle.{is-empty, intersects, get-bounds-path}
 use Rattle.plane.specs.declared.rect.Rect64.{Rect64}
 use Rattle.reference.specs.Entry.{sheet-refusal, is-present, unknown, yes, no}
-use Rattle.rectclip.specs.Answers.{number}
-use Rattle.rectclip.specs.declared.answer.Refusal.{Refusal}
-use Rattle.rectclip.specs.declared.answer.Refusal.the-variants.{OddCoordinates, StoreTooLong, AllowanceTooLarge, WorkTooShort, PathTooLong, RectangleOutside, PathOutside, StoreFull, CrossingLost, TurnsSpent, ListsTooShort, UnreadableLine}
+use Rattle.entry.specs.Answers.{number}
+use Rattle.entry.specs.declared.answer.Refusal.{Refusal}
+use Rattle.entry.specs.declared.answer.Refusal.the-variants.{OddCoordinates, StoreTooLong, AllowanceTooLarge, WorkTooShort, PathTooLong, RectangleOutside, PathOutside, StoreFull, CrossingLost, TurnsSpent, ListsTooShort, UnreadableLine}
 
 module _ (most : ℕ) (r : Rect64) (c : List ℤ) where
   pub too-long : most < length c / 2 → 5 ≡ sheet-refusal most r c

@@ -3,10 +3,10 @@ use mathlib.Core.Path.{ap, _∙_}
 use native.Mathlib.Omega.{arith}
 use Rattle.plane.specs.Limit.{rect-in-limit}
 use Rattle.plane.specs.declared.rect.Rect64.{Rect64}
-use Rattle.rectclip.proofs.PathBounds.{bounds-decide, empty-within}
+use Rattle.entry.proofs.PathBounds.{bounds-decide, empty-within}
 use borrow.Author.Needs.{needs}
-use Rattle.rectclip.proofs.survey.coordinates_in_limit.Statement.{statement}
-use Rattle.rectclip.proofs.survey.coordinates_in_limit.Tie as tie
+use Rattle.entry.proofs.admission.coordinates_in_limit.Statement.{statement}
+use Rattle.entry.proofs.admission.coordinates_in_limit.Tie as tie
 
 returns : tie.Need-returns
 returns c = let s : tie.Start = search in empty-within (s .args .path .now) (omega arith)

@@ -35,9 +35,3 @@ pub enum Presence {
     Present,
     Absent,
 }
-
-// Whether a check lets a call through.
-pub(crate) enum Check {
-    Passed,
-    Refused(Refusal),
-}

@@ -3,10 +3,10 @@ use mathlib.Core.Path.{refl, sym, _∙_}
 use Prim.Native.Nat.{_*_}
 use native.Mathlib.Omega.{arith}
 use lib.Seq.{length-take-le}
-use Rattle.rectclip.proofs.Delivering.{part-held, part-none}
+use Rattle.entry.proofs.Parts.{part-held, part-none}
 use borrow.Author.Needs.{needs}
-use Rattle.rectclip.proofs.part.filled.Statement.{statement}
-use Rattle.rectclip.proofs.part.filled.Tie as tie
+use Rattle.entry.proofs.part.filled.Statement.{statement}
+use Rattle.entry.proofs.part.filled.Tie as tie
 
 mul-end : tie.Need-mul-end
 mul-end c = search needs

@@ -1,5 +1,5 @@
 // The filled part of the caller's own coordinate list.
-ghost use Rattle.rectclip.specs.Promises.{FilledPart};
+ghost use Rattle.entry.specs.Part.{FilledPart};
 
 // The coordinates of so many points, at the front of the list; no entry where the list cannot hold them.
 pub fn filled(coordinates: &mut [i64], points: usize) -> &mut [i64]

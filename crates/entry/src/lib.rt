@@ -1,0 +1,6 @@
+// What the entries share: their answers, the checks that need no drawing, `present`, and the filled part of a caller's list.
+pub mod admission;
+pub mod answer;
+pub mod part;
+pub mod present;
+pub mod survey;
