@@ -1,0 +1,38 @@
+-- `firmware::rect_clip_lines64` meets its contract: the rectangle is that of the numbers passed. Assumes nothing.
+use borrow.Author.Needs.{needs}
+use mir.Facts.{toZ-ofZ}
+use Rattle.firmware.proofs.rect_clip_lines64.Statement.{statement}
+use Rattle.firmware.proofs.rect_clip_lines64.Tie as tie
+
+new-requires : tie.Need-new-requires
+new-requires c κs = search needs
+
+clip-bytes-requires : tie.Need-clip-bytes-requires
+clip-bytes-requires c κs = search needs
+
+same-length : tie.Need-same-length
+same-length c = search needs
+
+same-length-2 : tie.Need-same-length-2
+same-length-2 c = search needs
+
+same-length-3 : tie.Need-same-length-3
+same-length-3 c = search needs
+
+returns : tie.Need-returns
+returns c =
+    let s : tie.Start = search in
+    let n : tie.After-new = search in
+    let k : tie.After-clip-bytes = search in
+    rw (simp (toZ-ofZ (s .fits .left), toZ-ofZ (s .fits .top), toZ-ofZ (s .fits .right), toZ-ofZ (s .fits .bottom)) at (n .new .ensures)) at (k .clip-bytes .ensures)
+
+pub rect-clip-lines64-spec : {M : Type 1} → statement M
+rect-clip-lines64-spec =
+    tie.close
+    (tie.spec
+    new-requires
+    clip-bytes-requires
+    same-length
+    same-length-2
+    same-length-3
+    returns)
