@@ -1,10 +1,7 @@
 // The answer to a line, printed.
-ghost use mathlib.Core.Path.{_≡_};
 ghost use Prim.Native.Nat.{_≤_};
-ghost use lib.IntN.{pos};
 ghost use lib.ListN.{length};
 ghost use Rattle.clip.specs.Printed.{PathEnd};
-ghost use Rattle.entry.specs.Answers.{number};
 use entry::answer::Answer;
 use entry::answer::Refusal;
 use libc::STDOUT_FILENO;
@@ -23,29 +20,9 @@ pub(crate) enum Start {
     Ready(Rect64),
 }
 
-// The refusal's number.
-fn number_of(why: Refusal) -> i64
-    ensures { λ r. ⌜ r ≡ pos (number why) ⌝ }
-{
-    match why {
-        Refusal::OddCoordinates => 1,
-        Refusal::StoreTooLong => 2,
-        Refusal::AllowanceTooLarge => 3,
-        Refusal::WorkTooShort => 4,
-        Refusal::PathTooLong => 5,
-        Refusal::RectangleOutside => 6,
-        Refusal::PathOutside => 7,
-        Refusal::StoreFull => 8,
-        Refusal::CrossingLost => 9,
-        Refusal::TurnsSpent => 10,
-        Refusal::ListsTooShort => 11,
-        Refusal::UnreadableLine => 12,
-    }
-}
-
 fn print_refusal(line: i64, why: Refusal) {
     let mut out = [0u8; 64];
-    let n = write_refusal(line, number_of(why), &mut out);
+    let n = write_refusal(line, why.number() as i64, &mut out);
     io::write_all(STDOUT_FILENO, &out[..n]);
 }
 

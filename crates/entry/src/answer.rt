@@ -1,4 +1,6 @@
 // What the entries answer.
+ghost use mathlib.Core.Path.{_≡_};
+ghost use Rattle.entry.specs.Answers.{number};
 
 // Why a call is refused, in the order of the numbers 1 to 12.
 pub enum Refusal {
@@ -14,6 +16,28 @@ pub enum Refusal {
     TurnsSpent,
     ListsTooShort,
     UnreadableLine,
+}
+
+impl Refusal {
+    // Document 01's number.
+    pub fn number(self) -> u32
+        ensures { λ n. ⌜ n ≡ number self ⌝ }
+    {
+        match self {
+            Refusal::OddCoordinates => 1,
+            Refusal::StoreTooLong => 2,
+            Refusal::AllowanceTooLarge => 3,
+            Refusal::WorkTooShort => 4,
+            Refusal::PathTooLong => 5,
+            Refusal::RectangleOutside => 6,
+            Refusal::PathOutside => 7,
+            Refusal::StoreFull => 8,
+            Refusal::CrossingLost => 9,
+            Refusal::TurnsSpent => 10,
+            Refusal::ListsTooShort => 11,
+            Refusal::UnreadableLine => 12,
+        }
+    }
 }
 
 // How many paths and points a result has, and how many turns it took.

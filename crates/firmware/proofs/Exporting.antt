@@ -1,20 +1,20 @@
 -- What is sent of a clipper's answer is the definition's `exported`: the checks before it are the same, and the lists have room for every
 -- result, so that the clipper never refuses with 11. Assumes nothing.
-use mathlib.Core.Path.{_≡_, refl, sym, _∙_, ap, subst}
-use mathlib.Core.Bool.{Bool, true, false, not, _&&_, _||_}
-use mathlib.Core.List.{List, [], _∷_, _++_, map}
-use Prim.Native.Nat.{ℕ, zero, suc, _+_, _*_, _/_, _%_, _<_, _≤_}
+use mathlib.Core.Path.{_≡_, refl, _∙_, ap, subst}
+use mathlib.Core.Bool.{Bool, true, false, not}
+use mathlib.Core.List.{List, [], _∷_}
+use Prim.Native.Nat.{ℕ, _+_, _*_, _/_, _%_, _<_, _≤_}
 use native.Mathlib.Omega.{arith}
 use lib.ListN.{length, length-append, length-map, take, drop}
 use lib.Seq.{take-at}
 use lib.Dec.{eqb, ltb}
 use lib.IntN.{ℤ}
-use borrow.Author.Tests.{lt-ltb, le-ltb, ltb-true, ltb-false, eqb-true, ne-eqb, eq-eqb}
+use borrow.Author.Tests.{lt-ltb, le-ltb, ltb-true, ltb-false, eqb-true, ne-eqb}
 use Rattle.integers.specs.Tests.{T-of}
 use Rattle.plane.specs.declared.point.Point64.{Point64}
 use Rattle.plane.specs.declared.rect.Rect64.{Rect64}
 use Rattle.plane.specs.Basics.{if_then_else_, Try, refuse, ok, _>>=_}
-use Rattle.plane.specs.Points.{points-of, coordinates-of}
+use Rattle.plane.specs.Points.{points-of}
 use Rattle.plane.specs.Limit.{rect-in-limit, all-in-limit}
 use Rattle.plane.specs.Rectangle.{is-empty, intersects, contains-rect, get-bounds-path}
 use Rattle.reference.specs.Walk.{no-room}
@@ -160,13 +160,13 @@ module _ (closed : Bool) {R : Rect64} (path results : List ℤ) (numbers : List 
   pub may-send : Sendable (outcome r) results′ numbers′
   may-send = rw (k .answer, k .coordinates, k .lengths) (sendable (lent results numbers (k .store) (k .work)) (early-refusal 256 (if closed then 256 else 0) 8208 R path) (drawing-of closed R path))
 
-  pub all-exported : {R′ : Rect64} (bytes coordinates lengths counts : List ℕ) {v : Bytes} → path-refusal bytes ≡ 0 → path ≡ read-words bytes → R ≡ R′ → length results ≡ 512 → length numbers ≡ 257
-      → v ≡ sent (outcome r) results′ numbers′ coordinates lengths counts → v ≡ exported closed R′ bytes coordinates lengths counts
+  pub all-exported : (bytes coordinates lengths counts : List ℕ) {v : Bytes} → path-refusal bytes ≡ 0 → path ≡ read-words bytes → length results ≡ 512 → length numbers ≡ 257
+      → v ≡ sent (outcome r) results′ numbers′ coordinates lengths counts → v ≡ exported closed R bytes coordinates lengths counts
   unfolding exported
-  all-exported {R′} bytes coordinates lengths counts z p same a b e =
+  all-exported bytes coordinates lengths counts z p a b e =
       let short : length path / 2 ≤ 128 = rw p (few bytes z) in
       let l : Lent = lent results numbers (k .store) (k .work) in
       e ∙ (λ i. sent (k .answer i) (k .coordinates i) (k .lengths i) coordinates lengths counts)
       ∙ sent-answered l coordinates lengths counts (early-refusal 256 (if closed then 256 else 0) 8208 R path) (drawing-of closed R path) (roomy R path short closed l a b)
-      ∙ (λ i. exported-by (early-refusal 256 (if closed then 256 else 0) 8208 (same i) (p i)) (drawing-of closed (same i) (p i)) coordinates lengths counts)
-      ∙ ap (λ (n : ℕ). exported-by n (drawing-of closed R′ (read-words bytes)) coordinates lengths counts) (early-same bytes z closed R′)
+      ∙ ap (λ (read : List ℤ). exported-by (early-refusal 256 (if closed then 256 else 0) 8208 R read) (drawing-of closed R read) coordinates lengths counts) p
+      ∙ ap (λ (n : ℕ). exported-by n (drawing-of closed R (read-words bytes)) coordinates lengths counts) (early-same bytes z closed R)

@@ -4,11 +4,10 @@ ghost use mathlib.Core.Bool.{true, false};
 ghost use Rattle.plane.specs.Rectangle.{rect};
 ghost use Rattle.reference.specs.Entry.{drawn};
 ghost use Rattle.reference.specs.Exported.{exported};
-ghost use Rattle.entry.specs.Answers.{number, outcome};
+ghost use Rattle.entry.specs.Answers.{outcome};
 ghost use Rattle.firmware.specs.Sending.{path-refusal, sent, Sendable, Clipped};
 use entry::answer::Answer;
 use entry::answer::Counts;
-use entry::answer::Refusal;
 use plane::rect::Rect64;
 use rectclip::lines::RectClipLines64;
 use rectclip::rect_clip::RectClip64;
@@ -17,26 +16,6 @@ use words::put_numbers;
 use words::read_words;
 
 mod words;
-
-// Document 01's number of a refusal.
-fn number(r: Refusal) -> u32
-    ensures { λ n. ⌜ n ≡ number r ⌝ }
-{
-    match r {
-        Refusal::OddCoordinates => 1,
-        Refusal::StoreTooLong => 2,
-        Refusal::AllowanceTooLarge => 3,
-        Refusal::WorkTooShort => 4,
-        Refusal::PathTooLong => 5,
-        Refusal::RectangleOutside => 6,
-        Refusal::PathOutside => 7,
-        Refusal::StoreFull => 8,
-        Refusal::CrossingLost => 9,
-        Refusal::TurnsSpent => 10,
-        Refusal::ListsTooShort => 11,
-        Refusal::UnreadableLine => 12,
-    }
-}
 
 // 1 where the bytes are no whole points, 5 above 128 points, else 0.
 fn path_refusal(bytes: &[u8]) -> u32
@@ -95,28 +74,52 @@ fn send(
 {
     match answer {
         Answer::Drawn(c) => send_drawing(c, results, numbers, coordinates, lengths, counts),
-        Answer::Refused(r) => number(r),
+        Answer::Refused(r) => r.number(),
     }
 }
 
-// `RectClipLines64::execute` with room for 256 points.
-fn clip_lines(rect: Rect64, path: &[i64], results: &mut [i64], numbers: &mut [u32]) -> Answer
-    ensures { λ r. ⌜ Clipped false rect (now (path .entry)) (now (results .entry)) (now (numbers .entry)) r (now (results .exit)) (now (numbers .exit)) ⌝ }
+// The clipper of the path's kind, with room for 256 points and, for a closed one, 256 turns allowed.
+fn clip(
+    closed: bool,
+    rect: Rect64,
+    path: &[i64],
+    results: &mut [i64],
+    numbers: &mut [u32],
+) -> Answer
+    ensures { λ r. ⌜ Clipped closed rect (now (path .entry)) (now (results .entry)) (now (numbers .entry)) r (now (results .exit)) (now (numbers .exit)) ⌝ }
 {
     let mut store = [0i64; 512];
     let mut work = [0u32; 8208];
+    if closed {
+        let clipper = RectClip64::new(rect);
+        return clipper.execute(path, 256, &mut store, &mut work, results, numbers);
+    }
     let clipper = RectClipLines64::new(rect);
     clipper.execute(path, &mut store, &mut work, results, numbers)
 }
 
-// `RectClip64::execute` with room for 256 points and 256 turns allowed.
-fn clip_closed(rect: Rect64, path: &[i64], results: &mut [i64], numbers: &mut [u32]) -> Answer
-    ensures { λ r. ⌜ Clipped true rect (now (path .entry)) (now (results .entry)) (now (numbers .entry)) r (now (results .exit)) (now (numbers .exit)) ⌝ }
+// One path, closed or open: 0, or the refusal's number.
+fn clip_bytes(
+    closed: bool,
+    rect: Rect64,
+    path: &[u8],
+    coordinates: &mut [u8],
+    lengths: &mut [u8],
+    counts: &mut [u8],
+) -> u32
+    ensures { λ r. ⌜ (r, now (coordinates .exit), now (lengths .exit), now (counts .exit)) ≡ exported closed rect (now (path .entry)) (now (coordinates .entry)) (now (lengths .entry)) (now (counts .entry)) ⌝ }
 {
-    let mut store = [0i64; 512];
-    let mut work = [0u32; 8208];
-    let clipper = RectClip64::new(rect);
-    clipper.execute(path, 256, &mut store, &mut work, results, numbers)
+    let early = path_refusal(path);
+    if early != 0 {
+        return early;
+    }
+    let mut points = [0i64; 256];
+    read_words(path, &mut points);
+    let count = path.len() / 4;
+    let mut results = [0i64; 512];
+    let mut numbers = [0u32; 257];
+    let answer = clip(closed, rect, &points[..count], &mut results, &mut numbers);
+    send(answer, &results, &numbers, coordinates, lengths, counts)
 }
 
 // One open path: 0, or the refusal's number.
@@ -133,18 +136,8 @@ pub extern "C" fn rect_clip_lines64(
 ) -> u32
     ensures { λ r. ⌜ (r, now (coordinates .exit), now (lengths .exit), now (counts .exit)) ≡ exported false (rect left top right bottom) (now (path .entry)) (now (coordinates .entry)) (now (lengths .entry)) (now (counts .entry)) ⌝ }
 {
-    let early = path_refusal(path);
-    if early != 0 {
-        return early;
-    }
-    let mut points = [0i64; 256];
-    read_words(path, &mut points);
-    let count = path.len() / 4;
-    let mut results = [0i64; 512];
-    let mut numbers = [0u32; 257];
     let rect = Rect64::new(left, top, right, bottom);
-    let answer = clip_lines(rect, &points[..count], &mut results, &mut numbers);
-    send(answer, &results, &numbers, coordinates, lengths, counts)
+    clip_bytes(false, rect, path, coordinates, lengths, counts)
 }
 
 // One closed path: 0, or the refusal's number.
@@ -161,16 +154,6 @@ pub extern "C" fn rect_clip64(
 ) -> u32
     ensures { λ r. ⌜ (r, now (coordinates .exit), now (lengths .exit), now (counts .exit)) ≡ exported true (rect left top right bottom) (now (path .entry)) (now (coordinates .entry)) (now (lengths .entry)) (now (counts .entry)) ⌝ }
 {
-    let early = path_refusal(path);
-    if early != 0 {
-        return early;
-    }
-    let mut points = [0i64; 256];
-    read_words(path, &mut points);
-    let count = path.len() / 4;
-    let mut results = [0i64; 512];
-    let mut numbers = [0u32; 257];
     let rect = Rect64::new(left, top, right, bottom);
-    let answer = clip_closed(rect, &points[..count], &mut results, &mut numbers);
-    send(answer, &results, &numbers, coordinates, lengths, counts)
+    clip_bytes(true, rect, path, coordinates, lengths, counts)
 }

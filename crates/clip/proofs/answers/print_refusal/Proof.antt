@@ -5,8 +5,11 @@ use borrow.Author.Needs.{needs}
 use Rattle.clip.proofs.answers.print_refusal.Statement.{statement}
 use Rattle.clip.proofs.answers.print_refusal.Tie as tie
 
-number-of-requires : tie.Need-number-of-requires
-number-of-requires c κs = search needs
+number-requires : tie.Need-number-requires
+number-requires c κs = search needs
+
+cast-write-refusal : tie.Need-cast-write-refusal
+cast-write-refusal c = search needs
 
 slice-aggregate-write-refusal : tie.Need-slice-aggregate-write-refusal
 slice-aggregate-write-refusal c = search needs
@@ -30,7 +33,8 @@ pub print-refusal-spec : {M : Type 1} → statement M
 print-refusal-spec =
     tie.close
     (tie.spec
-    number-of-requires
+    number-requires
+    cast-write-refusal
     slice-aggregate-write-refusal
     write-refusal-requires
     array-share-prefix-out
