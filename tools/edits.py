@@ -1,15 +1,147 @@
 #!/usr/bin/env python3
-"""edits.py: says of each must-fail edit whether its old line stands exactly once in its file. Run in the repository's root."""
-import glob
-import sys
+"""edits.py [--logs] [CRATE...]: are the must-fail edits what they claim? Run in the repository's root.
 
-wrong = 0
-for name in sorted(glob.glob("crates/*/must-fail/*.edit")):
-    crate = "/".join(name.split("/")[:2])
-    parts = dict(line.split(": ", 1) for line in open(name).read().rstrip("\n").split("\n"))
-    text = open(f"{crate}/{parts['file']}").read().split("\n")
-    found = text.count(parts["old"])
-    if found != 1:
-        wrong += 1
-        print(f"{name}: its old line stands {found} times in {parts['file']}")
+Every edit's old text stands exactly once in its file. Every public function of the named crates (else: of none) has two edits or more,
+and they are printed: those that change its own text or a constant that it names, and those whose `of:` line names it.
+With --logs, after `rt must-fail`: the log of each edit of the named crates refuses every function that the edit changes and every one
+that its `of:` line names, and none because a proof file no longer fits the code."""
+import glob
+import os
+import re
+import sys
+from dataclasses import dataclass, field
+
+
+@dataclass
+class Function:
+    name: str  # as `rt` prints it, without the crate
+    public: bool
+    file: str
+    first: int  # the lines of its text, from 1
+    last: int
+    text: str
+
+
+@dataclass
+class Edit:
+    label: str
+    of: list = field(default_factory=list)
+    places: list = field(default_factory=list)  # (file, line)
+
+
+wrong = []
+
+
+def read(path):
+    with open(path) as f:
+        return f.read()
+
+
+def functions(crate):
+    """The functions of a crate; public is what others can name."""
+    root = f"crates/{crate}/src"
+    lib = read(f"{root}/lib.rt")
+    found = []
+    for path in sorted(glob.glob(f"{root}/*.rt")):
+        module = os.path.basename(path)[:-3]
+        shown = module == "lib" or f"\npub mod {module};" in lib
+        lines = read(path).split("\n")
+        owner = ""
+        for n, line in enumerate(lines, 1):
+            if match := re.match(r"impl (\w+) \{", line):
+                owner = match[1]
+            elif line == "}":
+                owner = ""
+            if not (match := re.match(r'( *)((?:pub(?:\(crate\))? )?)(?:extern "C" )?fn (\w+)', line)):
+                continue
+            last = next(k for k in range(n, len(lines)) if lines[k] == match[1] + "}") + 1
+            parts = [module if module != "lib" else "", owner, match[3]]
+            name = "::".join(p for p in parts if p)
+            text = "\n".join(lines[n - 1 : last])
+            found.append(Function(name, shown and match[2] == "pub ", f"src/{module}.rt", n, last, text))
+    return found
+
+
+def parse(crate, path):
+    """An edit, with the places that it changes, as `rt must-fail` reads it."""
+    edit = Edit(os.path.basename(path)[:-5])
+    texts = {}
+    file = old = ""
+    for line in read(path).split("\n"):
+        key, _, rest = line.partition(": ")
+        if key == "of":
+            edit.of += rest.split(", ")
+        elif key == "file":
+            file = rest
+        elif key == "old":
+            old = rest
+        elif line.startswith("new:"):
+            text = texts.get(file) or read(f"crates/{crate}/{file}")
+            if text.count(old) != 1:
+                wrong.append(f"{path}: an old text stands {text.count(old)} times in {file}")
+                continue
+            edit.places.append((file, text[: text.index(old)].count("\n") + 1))
+            texts[file] = text.replace(old, rest)
+    return edit
+
+
+def changed(edit, crate, all_functions):
+    """The functions whose own text an edit changes, or that name a constant which it changes."""
+    for file, line in edit.places:
+        here = read(f"crates/{crate}/{file}").split("\n")[line - 1]
+        constant = re.match(r" *(?:pub(?:\(crate\))? )?const (\w+)", here)
+        for f in all_functions:
+            if constant and re.search(rf"\b{constant[1]}\b", f.text):
+                yield f
+            elif f.file == file and f.first <= line <= f.last:
+                yield f
+
+
+def named(edit, crate, all_functions):
+    """The public functions that an edit's `of:` line names."""
+    for name in edit.of:
+        fits = [f for f in all_functions if f.public and ("::" + f.name).endswith("::" + name)]
+        if len(fits) != 1:
+            wrong.append(f"{crate}/{edit.label}: {len(fits)} public functions are called {name}")
+        yield from fits
+
+
+def check_log(edit, crate, touched):
+    path = f"target/must-fail/{crate}/{edit.label}/.log"
+    if not os.path.exists(path):
+        wrong.append(f"{crate}/{edit.label}: there is no log")
+        return
+    log = read(path)
+    if re.search(r"has no `Need-[^`]*` that can be named", log):
+        wrong.append(f"{crate}/{edit.label}: a proof file no longer fits the code")
+    for f in touched:
+        if not re.search(rf"^fn {crate}::{f.name}: (not proved|no proof)", log, re.M):
+            wrong.append(f"{crate}/{edit.label}: its log does not refuse {f.name}")
+
+
+def check(crate, edits, logs):
+    all_functions = functions(crate)
+    shown = {f.name: [] for f in all_functions if f.public}
+    for edit in edits:
+        touched = list(changed(edit, crate, all_functions)) + list(named(edit, crate, all_functions))
+        for f in touched:
+            if f.public and edit.label not in shown[f.name]:
+                shown[f.name].append(edit.label)
+        if logs:
+            check_log(edit, crate, touched)
+    for name, labels in shown.items():
+        print(f"{crate}::{name}: {', '.join(labels)}")
+        if len(labels) < 2:
+            wrong.append(f"{crate}::{name}: fewer than two edits")
+
+
+crates = [a for a in sys.argv[1:] if a != "--logs"]
+edits = {}
+for path in sorted(glob.glob("crates/*/must-fail/*.edit")):
+    crate = path.split("/")[1]
+    edits.setdefault(crate, []).append(parse(crate, path))
+for crate in crates:
+    check(crate, edits.get(crate, []), "--logs" in sys.argv)
+for line in wrong:
+    print(line, file=sys.stderr)
 sys.exit(1 if wrong else 0)
