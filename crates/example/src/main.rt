@@ -23,12 +23,15 @@ fn main() {
         &mut coordinates,
         &mut lengths,
     );
-    let n = match answer {
+    match answer {
         Answer::Drawn(counts) => {
             let part = filled(&mut coordinates, counts.points as usize);
-            write_path(true, 1, part, &mut line)
+            let n = write_path(true, 1, part, &mut line);
+            io::write_all(STDOUT_FILENO, &line[..n]);
         }
-        Answer::Refused(why) => write_refusal(1, why.number() as i64, &mut line),
-    };
-    io::write_all(STDOUT_FILENO, &line[..n]);
+        Answer::Refused(why) => {
+            let n = write_refusal(1, why.number() as i64, &mut line);
+            io::write_all(STDOUT_FILENO, &line[..n]);
+        }
+    }
 }
