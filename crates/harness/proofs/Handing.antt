@@ -1,20 +1,17 @@
--- What the exported functions hand over, from what the entries promise. Assumes nothing.
+-- What the exported functions hand over, from what the clippers promise. Assumes nothing.
 use mathlib.Core.Path.{_≡_, refl, sym, _∙_, ap, subst}
 use mathlib.Core.Bool.{Bool, true, false, _||_}
 use mathlib.Core.List.{List, [], _∷_, _++_, map}
-use Prim.Native.Nat.{ℕ, suc, _+_, _/_, _<_, _≤_}
+use Prim.Native.Nat.{ℕ, suc, _+_, _<_, _≤_}
 use native.Mathlib.Omega.{arith}
-use lib.ListN.{length, set, drop}
+use lib.ListN.{length, set}
 use lib.IntN.{ℤ}
 use lib.Dec.{T, eqb, ltb}
 use borrow.Author.Tests.{le-ltb, lt-ltb, ltb-false}
 use Rattle.plane.specs.declared.rect.Rect64.{Rect64}
-use Rattle.plane.specs.Basics.{Try, refuse, ok, _>>=_}
-use Rattle.plane.specs.Points.{points-of, coordinates-of}
-use Rattle.reference.specs.Entry.{is-present, filled, Outcome, refused, drawn, Lent, After, Drawing, joined, delivered, answered, clip-open, clip-closed, early-refusal}
-use Rattle.reference.specs.Clip.{execute}
-use Rattle.reference.specs.Lines.{execute-lines}
-use Rattle.reference.specs.Walk.{no-room}
+use Rattle.plane.specs.Basics.{Try, refuse, ok}
+use Rattle.plane.specs.Points.{coordinates-of}
+use Rattle.reference.specs.Entry.{is-present, filled, Outcome, refused, drawn, Lent, After, Drawing, joined, delivered, answered, clip-open, clip-closed}
 use Rattle.rectclip.specs.declared.answer.Presence.{Presence}
 use Rattle.rectclip.specs.declared.answer.Refusal.{Refusal}
 use Rattle.rectclip.specs.declared.answer.Refusal.the-variants.{OddCoordinates, StoreTooLong, AllowanceTooLarge, WorkTooShort, PathTooLong, RectangleOutside, PathOutside, StoreFull, CrossingLost, TurnsSpent, ListsTooShort, UnreadableLine}
@@ -22,7 +19,7 @@ use Rattle.rectclip.specs.declared.answer.Answer.{Answer}
 use Rattle.rectclip.specs.Answers.{presence, number, outcome}
 use Rattle.rectclip.specs.Promises.{lent, ClipsOpen}
 use Rattle.rectclip.specs.ClosedPromises.{ClipsClosed}
-use Rattle.harness.specs.Values.{presence-value, Exported, counted-by, counted, uncounted-value, Counted, Hands}
+use Rattle.harness.specs.Values.{presence-value, Exported, counted-by, counted, clip-kind, Clips, uncounted-value, Counted, Hands}
 
 -- the value of `present`, where its answer is q
 pub present-value : (p q : Presence) (R R′ : Rect64) (path : List ℤ) → presence p ≡ is-present R path → R ≡ R′ → p ≡ q
@@ -60,11 +57,9 @@ module _ (before : Lent) {after : Lent} (counts : List ℕ) {counts′ : List �
   hands-by (refused n) lists k e c l s w = record { value = k .value; coordinates = c; lengths = l; store = s; work = w; counts = k .list }
   hands-by (drawn p q t) lists k e c l s w = rw e (record { value = k .value; coordinates = c; lengths = l; store = s; work = w; counts = k .list })
 
-  pub hands-counted : (a : After) (r : Answer) → outcome r ≡ a .answer → Counted (outcome r) counts v counts′ → 3 ≤ length counts
-      → after .coordinates ≡ a .lists .coordinates → after .lengths ≡ a .lists .lengths → after .store ≡ a .lists .store → after .work ≡ a .lists .work
-      → Hands (counted before counts a) v after counts′
+  pub hands-counted : (a : After) {r : Answer} → Clips a r after → Counted (outcome r) counts v counts′ → 3 ≤ length counts → Hands (counted before counts a) v after counts′
   unfolding counted
-  hands-counted a r e k h c l s w = hands-by (a .answer) (a .lists) (rw e at k) (le-ltb _ _ h) c l s w
+  hands-counted a k n h = hands-by (a .answer) (a .lists) (rw (k .answer) at n) (le-ltb _ _ h) (k .coordinates) (k .lengths) (k .store) (k .work)
 
 nothing : {A : Type 0} (l : List A) → ltb 0 (length l) ≡ false → l ≡ []
 nothing [] e = refl
@@ -112,7 +107,7 @@ module _ (l : Lent) (counts : List ℕ) (h : ltb (length counts) 3 ≡ true) whe
           let p = parts (ltb 0 (length (coordinates-of (joined (d .0))))) (ltb 0 (length (map length (d .0)))) f in
           rw (e, f, h) (record { value = refl; coordinates = refl; lengths = refl; store = refl; work = refl; numbers = refl; no-coordinates = ap (λ c. filled c []) (nothing (coordinates-of (joined (d .0))) (p .0)); no-lengths = ap (λ c. filled c []) (nothing (map length (d .0)) (p .1)) })
 
-  pub uncounted-is : (early : ℕ) (drawing : Try Drawing) → Uncounted (counted l counts (answered l early drawing)) l counts (answered (bare l) early drawing)
+  uncounted-is : (early : ℕ) (drawing : Try Drawing) → Uncounted (counted l counts (answered l early drawing)) l counts (answered (bare l) early drawing)
   unfolding counted answered
   uncounted-is early drawing = go (eqb early 0) refl drawing
     where
@@ -121,48 +116,31 @@ module _ (l : Lent) (counts : List ℕ) (h : ltb (length counts) 3 ≡ true) whe
       go true e (ok d) = rw e (uncounted-drawn d)
       go false e drawing = rw e (record { value = refl; coordinates = refl; lengths = refl; store = refl; work = refl; numbers = refl; no-coordinates = refl; no-lengths = refl })
 
--- what an entry that was lent no room for a result leaves, handed over; early and drawing are the definition's
-pub hands-uncounted : (l : Lent) (counts : List ℕ) → length counts < 3 → (early : ℕ) (drawing : Try Drawing) (after : Lent) (r : Answer) (v : ℕ) → v ≡ uncounted-value (outcome r)
-    → outcome r ≡ answered (bare l) early drawing .answer → after .coordinates ≡ answered (bare l) early drawing .lists .coordinates → after .lengths ≡ answered (bare l) early drawing .lists .lengths
-    → after .store ≡ answered (bare l) early drawing .lists .store → after .work ≡ answered (bare l) early drawing .lists .work
-    → Hands (counted l counts (answered l early drawing)) v (lent (after .coordinates ++ l .coordinates) (after .lengths ++ l .lengths) (after .store) (after .work)) counts
-hands-uncounted l counts h early drawing after r v n a c k s w =
-    let u = uncounted-is l counts (lt-ltb _ _ h) early drawing in
+  -- the clipper of either kind
+  uncounted-clip : (closed : Bool) (A : ℕ) (R : Rect64) (path : List ℤ) → Uncounted (counted l counts (clip-kind closed A R path l)) l counts (clip-kind closed A R path (bare l))
+  unfolding clip-closed clip-open
+  uncounted-clip true A R path = uncounted-is _ _
+  uncounted-clip false A R path = uncounted-is _ _
+
+-- what a clipper that was lent no room for a result leaves, handed over
+pub hands-uncounted : (closed : Bool) (A : ℕ) (R : Rect64) (path : List ℤ) (l : Lent) (counts : List ℕ) → length counts < 3 → {after : Lent} {r : Answer} {v : ℕ}
+    → Clips (clip-kind closed A R path (bare l)) r after → v ≡ uncounted-value (outcome r)
+    → Hands (counted l counts (clip-kind closed A R path l)) v (lent (after .coordinates ++ l .coordinates) (after .lengths ++ l .lengths) (after .store) (after .work)) counts
+hands-uncounted closed A R path l counts h k n =
+    let u = uncounted-clip l counts (lt-ltb _ _ h) closed A R path in
     record {
-      value = n ∙ ap uncounted-value a ∙ sym (u .value);
-      coordinates = ap (λ x. x ++ l .coordinates) (c ∙ u .no-coordinates) ∙ sym (u .coordinates);
-      lengths = ap (λ x. x ++ l .lengths) (k ∙ u .no-lengths) ∙ sym (u .lengths);
-      store = s ∙ sym (u .store);
-      work = w ∙ sym (u .work);
+      value = n ∙ ap uncounted-value (k .answer) ∙ sym (u .value);
+      coordinates = ap (λ x. x ++ l .coordinates) (k .coordinates ∙ u .no-coordinates) ∙ sym (u .coordinates);
+      lengths = ap (λ x. x ++ l .lengths) (k .lengths ∙ u .no-lengths) ∙ sym (u .lengths);
+      store = k .store ∙ sym (u .store);
+      work = k .work ∙ sym (u .work);
       counts = sym (u .numbers);
     }
 
--- ---- the two entries, by what they promise; R′ is the rectangle of the numbers passed
-module _ (R R′ : Rect64) (path : List ℤ) (l : Lent) (counts : List ℕ) (e : R ≡ R′) where
-  pub lines-handed : {after : Lent} {r : Answer} {v : ℕ} {counts′ : List ℕ} → ClipsOpen R path l r after → Counted (outcome r) counts v counts′ → 3 ≤ length counts
-      → Hands (counted l counts (clip-open R′ path l)) v after counts′
-  lines-handed {after} {r} {v} {counts′} k n h =
-      subst (λ q. Hands (counted l counts (clip-open q path l)) v after counts′) e
-      (hands-counted l counts (clip-open R path l) r (k .answer) n h (k .coordinates) (k .lengths) (k .store) (k .work))
+-- ---- what the two clippers promise
+module _ {closed : Bool} (A : ℕ) {R : Rect64} {path : List ℤ} {l : Lent} {r : Answer} {after : Lent} where
+  pub clips-closed : closed ≡ true → ClipsClosed A R path l r after → Clips (clip-kind closed A R path l) r after
+  clips-closed e k = rw e (record { answer = k .answer; coordinates = k .coordinates; lengths = k .lengths; store = k .store; work = k .work })
 
-  pub lines-uncounted : {after : Lent} {r : Answer} {v : ℕ} → ClipsOpen R path (bare l) r after → v ≡ uncounted-value (outcome r) → length counts < 3
-      → Hands (counted l counts (clip-open R′ path l)) v (lent (after .coordinates ++ l .coordinates) (after .lengths ++ l .lengths) (after .store) (after .work)) counts
-  unfolding clip-open
-  lines-uncounted {after} {r} {v} k n h =
-      subst (λ q. Hands (counted l counts (clip-open q path l)) v (lent (after .coordinates ++ l .coordinates) (after .lengths ++ l .lengths) (after .store) (after .work)) counts) e
-      (hands-uncounted l counts h (early-refusal (length (l .store) / 2) 0 (length (l .work)) R path) (execute-lines (no-room (length (l .store) / 2)) R (points-of path) >>= λ paths. ok (paths, 0)) after r v n
-      (k .answer) (k .coordinates) (k .lengths) (k .store) (k .work))
-
-  pub closed-handed : (A : ℕ) {after : Lent} {r : Answer} {v : ℕ} {counts′ : List ℕ} → ClipsClosed A R path l r after → Counted (outcome r) counts v counts′ → 3 ≤ length counts
-      → Hands (counted l counts (clip-closed A R′ path l)) v after counts′
-  closed-handed A {after} {r} {v} {counts′} k n h =
-      subst (λ q. Hands (counted l counts (clip-closed A q path l)) v after counts′) e
-      (hands-counted l counts (clip-closed A R path l) r (k .answer) n h (k .coordinates) (k .lengths) (k .store) (k .work))
-
-  pub closed-uncounted : (A : ℕ) {after : Lent} {r : Answer} {v : ℕ} → ClipsClosed A R path (bare l) r after → v ≡ uncounted-value (outcome r) → length counts < 3
-      → Hands (counted l counts (clip-closed A R′ path l)) v (lent (after .coordinates ++ l .coordinates) (after .lengths ++ l .lengths) (after .store) (after .work)) counts
-  unfolding clip-closed
-  closed-uncounted A {after} {r} {v} k n h =
-      subst (λ q. Hands (counted l counts (clip-closed A q path l)) v (lent (after .coordinates ++ l .coordinates) (after .lengths ++ l .lengths) (after .store) (after .work)) counts) e
-      (hands-uncounted l counts h (early-refusal (length (l .store) / 2) A (length (l .work)) R path) (execute (no-room (length (l .store) / 2)) A R (points-of path)) after r v n
-      (k .answer) (k .coordinates) (k .lengths) (k .store) (k .work))
+  pub clips-open : closed ≡ false → ClipsOpen R path l r after → Clips (clip-kind closed A R path l) r after
+  clips-open e k = rw e (record { answer = k .answer; coordinates = k .coordinates; lengths = k .lengths; store = k .store; work = k .work })

@@ -1,13 +1,16 @@
 -- The value of an exported function: 0 or the refusal's number, with the counts of a result in a list of their own. `present`: 0, 1, or 100 and the number.
 use mathlib.Core.Path.{_≡_}
 use mathlib.Core.List.{List, [], _∷_}
-use mathlib.Core.Bool.{Bool, true, false}
+use mathlib.Core.Bool.{Bool}
 use Prim.Native.Nat.{ℕ, _+_}
-use lib.ListN.{length, replicate}
+use lib.ListN.{length}
 use lib.Dec.{ltb}
-use lib.IntN.{ℤ, pos}
+use lib.IntN.{ℤ}
+use Rattle.plane.specs.declared.rect.Rect64.{Rect64}
 use Rattle.plane.specs.Basics.{if_then_else_}
-use Rattle.reference.specs.Entry.{Outcome, refused, drawn, Lent, After, filled, cleared, Presence, unknown, yes, no}
+use Rattle.reference.specs.Entry.{Outcome, refused, drawn, Lent, After, filled, cleared, clip-open, clip-closed, Presence, unknown, yes, no}
+use Rattle.rectclip.specs.declared.answer.Answer.{Answer}
+use Rattle.rectclip.specs.Answers.{outcome}
 
 abbrev pub presence-value : Presence → ℕ
 presence-value (unknown n) = 100 + n
@@ -40,6 +43,18 @@ pub record Hands (e : Exported) (r : ℕ) (after : Lent) (numbers : List ℕ) : 
   pub counts : numbers ≡ e .counts
 
 -- ---- words of the private functions
+-- the clipper of the path's kind
+abbrev pub clip-kind : Bool → ℕ → Rect64 → List ℤ → Lent → After
+clip-kind closed A rect path l = if closed then clip-closed A rect path l else clip-open rect path l
+
+-- the answer and the lists are those of a definition's call
+pub record Clips (a : After) (r : Answer) (after : Lent) : Type 0 where
+  pub answer : outcome r ≡ a .answer
+  pub coordinates : after .coordinates ≡ a .lists .coordinates
+  pub lengths : after .lengths ≡ a .lists .lengths
+  pub store : after .store ≡ a .lists .store
+  pub work : after .work ≡ a .lists .work
+
 abbrev pub uncounted-value : Outcome → ℕ
 uncounted-value (refused n) = n
 uncounted-value (drawn paths points turns) = 11

@@ -5,35 +5,14 @@ ghost use Rattle.reference.specs.Entry.{clip-open, clip-closed, is-present};
 ghost use Rattle.rectclip.specs.Promises.{lent};
 ghost use Prim.Native.Nat.{_≤_};
 ghost use lib.ListN.{length};
-ghost use Rattle.rectclip.specs.Answers.{number, outcome};
-ghost use Rattle.harness.specs.Values.{presence-value, uncounted-value, counted, Counted, Hands};
+ghost use Rattle.rectclip.specs.Answers.{outcome};
+ghost use Rattle.harness.specs.Values.{presence-value, clip-kind, Clips, uncounted-value, counted, Counted, Hands};
 use plane::rect::Rect64;
 use rectclip::answer::Answer;
 use rectclip::answer::Presence;
-use rectclip::answer::Refusal;
 use rectclip::lines::RectClipLines64;
 use rectclip::present::present;
 use rectclip::rect_clip::RectClip64;
-
-// Document 01's number of a refusal.
-pub fn number(r: Refusal) -> u32
-    ensures { λ n. ⌜ n ≡ number r ⌝ }
-{
-    match r {
-        Refusal::OddCoordinates => 1,
-        Refusal::StoreTooLong => 2,
-        Refusal::AllowanceTooLarge => 3,
-        Refusal::WorkTooShort => 4,
-        Refusal::PathTooLong => 5,
-        Refusal::RectangleOutside => 6,
-        Refusal::PathOutside => 7,
-        Refusal::StoreFull => 8,
-        Refusal::CrossingLost => 9,
-        Refusal::TurnsSpent => 10,
-        Refusal::ListsTooShort => 11,
-        Refusal::UnreadableLine => 12,
-    }
-}
 
 // 0 no, 1 yes, 100 and the number for a refusal.
 #[no_mangle]
@@ -43,7 +22,7 @@ pub extern "C" fn harness_present(left: i64, top: i64, right: i64, bottom: i64, 
     match present(Rect64::new(left, top, right, bottom), path) {
         Presence::Absent => 0,
         Presence::Present => 1,
-        Presence::Refused(r) => 100 + number(r),
+        Presence::Refused(r) => 100 + r.number(),
     }
 }
 
@@ -63,13 +42,18 @@ pub extern "C" fn harness_rect_clip_lines64(
 ) -> u32
     ensures { λ r. ⌜ Hands (counted (lent (now (coordinates .entry)) (now (lengths .entry)) (now (store .entry)) (now (work .entry))) (now (counts .entry)) (clip-open (rect left top right bottom) (now (path .entry)) (lent (now (coordinates .entry)) (now (lengths .entry)) (now (store .entry)) (now (work .entry))))) r (lent (now (coordinates .exit)) (now (lengths .exit)) (now (store .exit)) (now (work .exit))) (now (counts .exit)) ⌝ }
 {
-    let clipper = RectClipLines64::new(Rect64::new(left, top, right, bottom));
-    if counts.len() < 3 {
-        let answer = clipper.execute(path, store, work, &mut coordinates[..0], &mut lengths[..0]);
-        return uncounted(answer);
-    }
-    let answer = clipper.execute(path, store, work, coordinates, lengths);
-    hand_over(answer, counts)
+    let rect = Rect64::new(left, top, right, bottom);
+    clip_counted(
+        false,
+        0,
+        rect,
+        path,
+        store,
+        work,
+        coordinates,
+        lengths,
+        counts,
+    )
 }
 
 // `RectClip64::execute`, with the turn allowance: otherwise as the line clipper's.
@@ -89,11 +73,62 @@ pub extern "C" fn harness_rect_clip64(
 ) -> u32
     ensures { λ r. ⌜ Hands (counted (lent (now (coordinates .entry)) (now (lengths .entry)) (now (store .entry)) (now (work .entry))) (now (counts .entry)) (clip-closed allowance (rect left top right bottom) (now (path .entry)) (lent (now (coordinates .entry)) (now (lengths .entry)) (now (store .entry)) (now (work .entry))))) r (lent (now (coordinates .exit)) (now (lengths .exit)) (now (store .exit)) (now (work .exit))) (now (counts .exit)) ⌝ }
 {
-    let clipper = RectClip64::new(Rect64::new(left, top, right, bottom));
+    let rect = Rect64::new(left, top, right, bottom);
+    clip_counted(
+        true,
+        allowance,
+        rect,
+        path,
+        store,
+        work,
+        coordinates,
+        lengths,
+        counts,
+    )
+}
+
+// The clipper of the path's kind; an open path takes no turns.
+fn clip(
+    closed: bool,
+    allowance: u32,
+    rect: Rect64,
+    path: &[i64],
+    store: &mut [i64],
+    work: &mut [u32],
+    coordinates: &mut [i64],
+    lengths: &mut [u32],
+) -> Answer
+    ensures { λ r. ⌜ Clips (clip-kind closed allowance rect (now (path .entry)) (lent (now (coordinates .entry)) (now (lengths .entry)) (now (store .entry)) (now (work .entry)))) r (lent (now (coordinates .exit)) (now (lengths .exit)) (now (store .exit)) (now (work .exit))) ⌝ }
+{
+    if closed {
+        let clipper = RectClip64::new(rect);
+        return clipper.execute(path, allowance, store, work, coordinates, lengths);
+    }
+    let clipper = RectClipLines64::new(rect);
+    clipper.execute(path, store, work, coordinates, lengths)
+}
+
+// 0 or the refusal's number; on 0 the first three counts are paths, points and turns. Where they have no place, the clipper is lent no
+// room for a result.
+fn clip_counted(
+    closed: bool,
+    allowance: u32,
+    rect: Rect64,
+    path: &[i64],
+    store: &mut [i64],
+    work: &mut [u32],
+    coordinates: &mut [i64],
+    lengths: &mut [u32],
+    counts: &mut [u32],
+) -> u32
+    ensures { λ r. ⌜ Hands (counted (lent (now (coordinates .entry)) (now (lengths .entry)) (now (store .entry)) (now (work .entry))) (now (counts .entry)) (clip-kind closed allowance rect (now (path .entry)) (lent (now (coordinates .entry)) (now (lengths .entry)) (now (store .entry)) (now (work .entry))))) r (lent (now (coordinates .exit)) (now (lengths .exit)) (now (store .exit)) (now (work .exit))) (now (counts .exit)) ⌝ }
+{
     if counts.len() < 3 {
-        let answer = clipper.execute(
-            path,
+        let answer = clip(
+            closed,
             allowance,
+            rect,
+            path,
             store,
             work,
             &mut coordinates[..0],
@@ -101,7 +136,16 @@ pub extern "C" fn harness_rect_clip64(
         );
         return uncounted(answer);
     }
-    let answer = clipper.execute(path, allowance, store, work, coordinates, lengths);
+    let answer = clip(
+        closed,
+        allowance,
+        rect,
+        path,
+        store,
+        work,
+        coordinates,
+        lengths,
+    );
     hand_over(answer, counts)
 }
 
@@ -111,7 +155,7 @@ fn uncounted(answer: Answer) -> u32
 {
     match answer {
         Answer::Drawn(_) => 11,
-        Answer::Refused(r) => number(r),
+        Answer::Refused(r) => r.number(),
     }
 }
 
@@ -127,6 +171,6 @@ fn hand_over(answer: Answer, counts: &mut [u32]) -> u32
             counts[2] = c.turns;
             0
         }
-        Answer::Refused(r) => number(r),
+        Answer::Refused(r) => r.number(),
     }
 }

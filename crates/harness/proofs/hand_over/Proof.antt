@@ -1,5 +1,5 @@
 -- `harness::hand_over` meets its contract: three stores fill the front of the list.
-use mathlib.Core.Path.{refl, _∙_, ap}
+use mathlib.Core.Path.{refl}
 use native.Mathlib.Omega.{arith}
 use lib.ListN.{length-set}
 use Rattle.harness.proofs.Handing.{three-stored}
