@@ -1,2 +1,3 @@
--- Words of the program's contracts.
+-- What the clip program prints for a line, and words of the functions that write it.
 pub mod Printed
+pub mod Answered

@@ -4,7 +4,7 @@ ghost use lib.ListN.{length};
 use libc::STDIN_FILENO;
 
 // Where the next byte of the buffer stands, and how many bytes it holds.
-pub(crate) struct Cursor {
+pub struct Cursor {
     pub at: usize,
     pub end: usize,
 }
@@ -15,7 +15,7 @@ enum Next {
 }
 
 // A line at the front of the line's list: how many of its bytes are there, and whether there was one at all.
-pub(crate) struct Taken {
+pub struct Taken {
     pub cursor: Cursor,
     pub count: usize,
     pub begun: bool,
@@ -40,7 +40,7 @@ fn next_byte(buffer: &mut [u8; 65536], cursor: Cursor) -> Next {
 
 // The next line, line feed left out. Of a line that is too long, as much is kept as `line` can hold.
 // A proved loop has to end, and nothing says that a line does: the turns are counted down from a number that no run uses up.
-pub(crate) fn take_line(buffer: &mut [u8; 65536], start: Cursor, line: &mut [u8]) -> Taken
+pub fn take_line(buffer: &mut [u8; 65536], start: Cursor, line: &mut [u8]) -> Taken
     ensures { λ r. ⌜ r .count ≤ length (now (line .exit)) ⌝ }
 {
     let mut cursor = start;

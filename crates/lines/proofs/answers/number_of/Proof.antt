@@ -1,11 +1,11 @@
--- `clip::answers::number_of` meets its contract: each case has the number of the definition. Assumes nothing.
+-- `lines::answers::number_of` meets its contract: each case has the number of the definition. Assumes nothing.
 use mathlib.Core.Path.{_≡_, sym, ap}
 use lib.IntN.{pos}
 use Rattle.rectclip.specs.Answers.{number}
 use Rattle.rectclip.specs.declared.answer.Refusal.{Refusal}
 use borrow.Author.Needs.{needs}
-use Rattle.clip.proofs.answers.number_of.Statement.{statement}
-use Rattle.clip.proofs.answers.number_of.Tie as tie
+use Rattle.lines.proofs.answers.number_of.Statement.{statement}
+use Rattle.lines.proofs.answers.number_of.Tie as tie
 
 named : {why case : Refusal} → why ≡ case → pos (number case) ≡ pos (number why)
 named e = ap (λ (r : Refusal). pos (number r)) (sym e)

@@ -1,21 +1,24 @@
--- `clip::answers::print_paths` is safe and ends. Assumes nothing.
-use borrow.Author.Needs.{needs}
+-- `lines::answers::write_paths` meets its contract. Assumes nothing.
+use mathlib.Core.Path.{_≡_}
 use Prim.Native.Nat.{_-_, _≤_}
-use lib.ListN.{length}
-use Rattle.clip.proofs.answers.print_paths.Statement.{statement}
-use Rattle.clip.proofs.answers.print_paths.Tie as tie
+use lib.ListN.{length, drop}
+use mir.Syntax.{w64}
+use mir.Val.{SFits, toZ}
+use mir.Facts.{toZ-ofZ}
+use Rattle.lines.specs.Printed.{lines-of}
+use Rattle.lines.proofs.Lines.{WrittenTo, written-start, next-written, paths-written}
+use borrow.Author.Needs.{needs}
+use Rattle.lines.proofs.answers.write_paths.Statement.{statement}
+use Rattle.lines.proofs.answers.write_paths.Tie as tie
 
 abbrev Inv-loop : tie.InvT-loop
-Inv-loop closed line paths coordinates lengths n i₀ at₀ i at = at ≤ length coordinates
+Inv-loop closed line coordinates lengths out₀ i₀ at₀ end₀ out i at end = WrittenTo (lines-of closed (toZ w64 line) lengths coordinates) out₀ out end (lines-of closed (toZ w64 line) (drop i lengths) (drop at coordinates)) × (at ≤ length coordinates)
 
 abbrev μ-loop : tie.MeasureT-loop
-μ-loop closed line paths coordinates lengths n i₀ at₀ i at = n - i
-
-least-requires : tie.Need-least-requires Inv-loop μ-loop
-least-requires c κs = search needs
+μ-loop closed line coordinates lengths out₀ i₀ at₀ end₀ out i at end = length lengths - i
 
 loop-holds : tie.Need-loop-holds Inv-loop μ-loop
-loop-holds c = search needs
+loop-holds c = (written-start _ _, search needs)
 
 mul-path-end : tie.Need-mul-path-end Inv-loop μ-loop
 mul-path-end c = search needs
@@ -26,20 +29,20 @@ shared-slice-read-path-end c = search needs
 path-end-requires : tie.Need-path-end-requires Inv-loop μ-loop
 path-end-requires c κs = search needs
 
-mul-print-path : tie.Need-mul-print-path Inv-loop μ-loop
-mul-print-path c = search needs
+mul-add-path : tie.Need-mul-add-path Inv-loop μ-loop
+mul-add-path c = search needs
 
-sub-print-path : tie.Need-sub-print-path Inv-loop μ-loop
-sub-print-path c = search needs
+sub-add-path : tie.Need-sub-add-path Inv-loop μ-loop
+sub-add-path c = search needs
 
-part-print-path-start : tie.Need-part-print-path-start Inv-loop μ-loop
-part-print-path-start c = search needs
+part-add-path-start : tie.Need-part-add-path-start Inv-loop μ-loop
+part-add-path-start c = search needs
 
-part-print-path-end : tie.Need-part-print-path-end Inv-loop μ-loop
-part-print-path-end c = search needs
+part-add-path-end : tie.Need-part-add-path-end Inv-loop μ-loop
+part-add-path-end c = search needs
 
-print-path-requires : tie.Need-print-path-requires Inv-loop μ-loop
-print-path-requires c κs = search needs
+add-path-requires : tie.Need-add-path-requires Inv-loop μ-loop
+add-path-requires c κs = search needs
 
 add-i : tie.Need-add-i Inv-loop μ-loop
 add-i c = search needs
@@ -48,28 +51,40 @@ loop-less : tie.Need-loop-less Inv-loop μ-loop
 loop-less c = search needs
 
 loop-again : tie.Need-loop-again Inv-loop μ-loop
-loop-again c = search needs
+loop-again c =
+    let s : tie.Start Inv-loop μ-loop = search in
+    let a : tie.At-loop Inv-loop μ-loop = search in
+    let e : tie.After-path-end Inv-loop μ-loop = search in
+    let w : tie.After-add-path Inv-loop μ-loop = search in
+    (next-written (s .args .closed) _ (s .args .lengths .now) (s .args .coordinates .now) (a .loop .i) (a .loop .at) (e .path-end .result) (search needs) (e .path-end .ensures) (a .loop .inv .0) (w .add-path .ensures), e .path-end .ensures .within)
+
+same-length : tie.Need-same-length Inv-loop μ-loop
+same-length c = let a : tie.At-loop Inv-loop μ-loop = search in a .loop .inv .0 .long
 
 returns : tie.Need-returns Inv-loop μ-loop
-returns c = search needs
+returns c =
+    let s : tie.Start Inv-loop μ-loop = search in
+    let a : tie.At-loop Inv-loop μ-loop = search in
+    let f : SFits w64 (s .args .line) = search needs in
+    paths-written (s .args .closed) (s .args .line) (s .args .lengths .now) (s .args .coordinates .now) (a .loop .i) (a .loop .at) (toZ-ofZ f) (search needs) (a .loop .inv .0)
 
-pub print-paths-spec : {M : Type 1} → statement M
-print-paths-spec =
+pub write-paths-spec : {M : Type 1} → statement M
+write-paths-spec =
     tie.close
     (tie.spec
     Inv-loop
     μ-loop
-    least-requires
     loop-holds
     mul-path-end
     shared-slice-read-path-end
     path-end-requires
-    mul-print-path
-    sub-print-path
-    part-print-path-start
-    part-print-path-end
-    print-path-requires
+    mul-add-path
+    sub-add-path
+    part-add-path-start
+    part-add-path-end
+    add-path-requires
     add-i
     loop-less
     loop-again
+    same-length
     returns)

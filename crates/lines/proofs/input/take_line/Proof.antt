@@ -1,10 +1,10 @@
--- `clip::input::take_line` is safe and ends: the measure is the number of turns that are left. Assumes nothing.
+-- `lines::input::take_line` is safe and ends: the measure is the number of turns that are left. Assumes nothing.
 use borrow.Author.Needs.{needs}
 use mathlib.Core.Path.{_≡_}
 use Prim.Native.Nat.{_≤_}
 use lib.ListN.{length, length-set}
-use Rattle.clip.proofs.input.take_line.Statement.{statement}
-use Rattle.clip.proofs.input.take_line.Tie as tie
+use Rattle.lines.proofs.input.take_line.Statement.{statement}
+use Rattle.lines.proofs.input.take_line.Tie as tie
 
 abbrev Inv-loop : tie.InvT-loop
 Inv-loop buffer₀ line₀ cursor₀ count₀ begun₀ turns₀ buffer line cursor count begun turns = (count ≤ length line) × (length line ≡ length line₀)
