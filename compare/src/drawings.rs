@@ -36,9 +36,17 @@ impl Drawing {
         clip(self.kind, self.rect, &self.path, Lent::enough(self.w, self.a))
     }
 
+    /// C closed, L open.
+    pub fn letter(&self) -> char {
+        match self.kind {
+            Kind::Closed => 'C',
+            Kind::Open => 'L',
+        }
+    }
+
     /// The row with the Rust's answer.
     pub fn row(&self) -> String {
-        let letter = if self.kind == Kind::Closed { 'C' } else { 'L' };
+        let letter = self.letter();
         let given = format!("{letter};{};{};{};{}", commas(&self.rect), self.w, self.a, commas(&self.path));
         match self.answer() {
             Answer::Refused(number @ 1..=7) => format!("{given};X,{number};;-"),

@@ -19,12 +19,17 @@ pub fn answer_all(mut input: impl BufRead, mut output: impl Write) -> io::Result
     let mut line_number = 1_u64;
     while let Some(line) = next_line(&mut input)? {
         line_number += 1;
-        match answer_line(rect, &line) {
-            Err(number) => writeln!(output, "X,{line_number},{number}")?,
-            Ok((letter, drawn)) => print_paths(&mut output, letter, line_number, &drawn)?,
-        }
+        print_answer(&mut output, rect, line_number, &line)?;
     }
     Ok(())
+}
+
+/// What is printed for a line behind line 1.
+pub fn print_answer(output: &mut impl Write, rect: Rect, line_number: u64, line: &[u8]) -> io::Result<()> {
+    match answer_line(rect, line) {
+        Err(number) => writeln!(output, "X,{line_number},{number}"),
+        Ok((letter, drawn)) => print_paths(output, letter, line_number, &drawn),
+    }
 }
 
 /// The next line without its line feed, or none at the end. Of a line that is too long, one byte too many is kept.

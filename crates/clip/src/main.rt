@@ -1,32 +1,45 @@
 // The clip program: it reads standard input line by line and prints the answer to each.
-mod answers;
-mod input;
+use libc::STDOUT_FILENO;
+use program::answers::Start;
+use program::answers::answer_first;
+use program::answers::answer_line;
+use program::input::Cursor;
+use program::input::take_line;
+use plane::rect::Rect64;
 
-use answers::Start;
-use answers::answer_line;
-use answers::first_line;
-use input::Cursor;
-use input::take_line;
-
-fn main() {
-    let mut buffer = [0u8; 65536];
+// The lines behind line 1. Their numbers count up to one that no run comes to.
+fn print_answers(rect: Rect64, start: Cursor, buffer: &mut [u8; 65536]) {
     let mut line = [0u8; 4097];
-    let first = take_line(&mut buffer, Cursor { at: 0, end: 0 }, &mut line);
-    let n = first.count;
-    let start = first_line(&line[..n]);
-    let Start::Ready(rect) = start else {
-        return;
-    };
-    let mut cursor = first.cursor;
+    let mut out = [0u8; 12288];
+    let mut cursor = start;
     let mut number: u64 = 2;
     while number < 9223372036854775808 {
-        let taken = take_line(&mut buffer, cursor, &mut line);
+        let taken = take_line(buffer, cursor, &mut line);
         if !taken.begun {
             return;
         }
         let k = taken.count;
-        answer_line(rect, number as i64, &line[..k]);
+        let n = answer_line(rect, number as i64, &line[..k], &mut out);
+        io::write_all(STDOUT_FILENO, &out[..n]);
         cursor = taken.cursor;
         number += 1;
+    }
+}
+
+fn main() {
+    let mut buffer = [0u8; 65536];
+    let mut line = [0u8; 4097];
+    let mut out = [0u8; 128];
+    let first = take_line(&mut buffer, Cursor { at: 0, end: 0 }, &mut line);
+    let k = first.count;
+    let start = answer_first(&line[..k], &mut out);
+    match start {
+        Start::Refused(n) => {
+            io::write_all(STDOUT_FILENO, &out[..n]);
+        }
+        Start::Ready(rect, n) => {
+            io::write_all(STDOUT_FILENO, &out[..n]);
+            print_answers(rect, first.cursor, &mut buffer);
+        }
     }
 }

@@ -1,101 +1,86 @@
--- `clip::main` is safe and ends: the measure is the line numbers that are left. Assumes nothing.
-use borrow.Author.Needs.{needs}
-use mathlib.Core.Path.{_≡_, sym}
-use Prim.Native.Nat.{_-_}
-use lib.ListN.{length}
+-- `clip::main` meets its contract. Assumes nothing.
+use mathlib.Core.Path.{_≡_, sym, subst}
+use Prim.Native.Nat.{ℕ, _≤_}
 use lib.Seq.{length-take-le}
+use Rattle.program.specs.declared.answers.Start.{Start}
+use Rattle.program.specs.Answered.{bytes-of}
+use borrow.Author.Needs.{needs}
 use Rattle.clip.proofs.main.Statement.{statement}
 use Rattle.clip.proofs.main.Tie as tie
 
-abbrev Inv-loop : tie.InvT-loop
-Inv-loop buffer₀ line₀ n rect cursor₀ number₀ buffer line cursor number = length line ≡ 4097
+-- what is written lies within the list
+within : {r s : Start} {m : ℕ} → r ≡ s → bytes-of r ≤ m → bytes-of s ≤ m
+within {m = m} e h = subst (λ (x : Start). bytes-of x ≤ m) e h
 
-abbrev μ-loop : tie.MeasureT-loop
-μ-loop buffer₀ line₀ n rect cursor₀ number₀ buffer line cursor number = 9223372036854775808 - number
-
-slice-aggregate-take-line : tie.Need-slice-aggregate-take-line Inv-loop μ-loop
+slice-aggregate-take-line : tie.Need-slice-aggregate-take-line
 slice-aggregate-take-line c = search needs
 
-take-line-requires : tie.Need-take-line-requires Inv-loop μ-loop
+take-line-requires : tie.Need-take-line-requires
 take-line-requires c κs = search needs
 
-array-share-prefix-line : tie.Need-array-share-prefix-line Inv-loop μ-loop
+array-share-prefix-line : tie.Need-array-share-prefix-line
 array-share-prefix-line c = search needs
 
-slice-aggregate-first-line : tie.Need-slice-aggregate-first-line Inv-loop μ-loop
-slice-aggregate-first-line c = let t : tie.After-take-line Inv-loop μ-loop = search in sym (length-take-le _ _ (t .take-line .ensures))
+slice-aggregate-answer-first : tie.Need-slice-aggregate-answer-first
+slice-aggregate-answer-first c = let t : tie.After-take-line = search in sym (length-take-le _ _ (t .take-line .ensures))
 
-first-line-requires : tie.Need-first-line-requires Inv-loop μ-loop
-first-line-requires c κs = search needs
+slice-aggregate-answer-first-2 : tie.Need-slice-aggregate-answer-first-2
+slice-aggregate-answer-first-2 c = search needs
 
-enum-known-start : tie.Need-enum-known-start Inv-loop μ-loop
+answer-first-requires : tie.Need-answer-first-requires
+answer-first-requires c κs = search needs
+
+enum-known-start : tie.Need-enum-known-start
 enum-known-start c = search needs
 
-enum-told : tie.Need-enum-told Inv-loop μ-loop
-enum-told c = search needs
+array-share-prefix-out : tie.Need-array-share-prefix-out
+array-share-prefix-out c = let f : tie.After-answer-first = search in let e : tie.After-start = search in within (e .start .given .1) (f .answer-first .ensures .gives .within)
 
-returns : tie.Need-returns Inv-loop μ-loop
+slice-aggregate-write-all : tie.Need-slice-aggregate-write-all
+slice-aggregate-write-all c = let f : tie.After-answer-first = search in let e : tie.After-start = search in sym (length-take-le _ _ (within (e .start .given .1) (f .answer-first .ensures .gives .within)))
+
+write-all-requires : tie.Need-write-all-requires
+write-all-requires c κs = search needs
+
+enum-known-start-2 : tie.Need-enum-known-start-2
+enum-known-start-2 c = search needs
+
+array-share-prefix-out-2 : tie.Need-array-share-prefix-out-2
+array-share-prefix-out-2 c = let f : tie.After-answer-first = search in let e : tie.After-start2 = search in within (e .start2 .given .1) (f .answer-first .ensures .gives .within)
+
+slice-aggregate-write-all-2 : tie.Need-slice-aggregate-write-all-2
+slice-aggregate-write-all-2 c = let f : tie.After-answer-first = search in let e : tie.After-start2 = search in sym (length-take-le _ _ (within (e .start2 .given .1) (f .answer-first .ensures .gives .within)))
+
+write-all-requires-2 : tie.Need-write-all-requires-2
+write-all-requires-2 c κs = search needs
+
+print-answers-requires : tie.Need-print-answers-requires
+print-answers-requires c κs = search needs
+
+returns : tie.Need-returns
 returns c = search needs
 
-loop-holds : tie.Need-loop-holds Inv-loop μ-loop
-loop-holds c = search needs
-
-slice-aggregate-take-line-2 : tie.Need-slice-aggregate-take-line-2 Inv-loop μ-loop
-slice-aggregate-take-line-2 c = search needs
-
-take-line-requires-2 : tie.Need-take-line-requires-2 Inv-loop μ-loop
-take-line-requires-2 c κs = search needs
-
-returns-2 : tie.Need-returns-2 Inv-loop μ-loop
+returns-2 : tie.Need-returns-2
 returns-2 c = search needs
-
-cast-answer-line : tie.Need-cast-answer-line Inv-loop μ-loop
-cast-answer-line c = search needs
-
-array-share-prefix-line-2 : tie.Need-array-share-prefix-line-2 Inv-loop μ-loop
-array-share-prefix-line-2 c = search needs
-
-slice-aggregate-answer-line : tie.Need-slice-aggregate-answer-line Inv-loop μ-loop
-slice-aggregate-answer-line c = let t : tie.After-take-line2 Inv-loop μ-loop = search in sym (length-take-le _ _ (t .take-line2 .ensures))
-
-answer-line-requires : tie.Need-answer-line-requires Inv-loop μ-loop
-answer-line-requires c κs = search needs
-
-add-number : tie.Need-add-number Inv-loop μ-loop
-add-number c = search needs
-
-loop-less : tie.Need-loop-less Inv-loop μ-loop
-loop-less c = search needs
-
-loop-again : tie.Need-loop-again Inv-loop μ-loop
-loop-again c = search needs
-
-returns-3 : tie.Need-returns-3 Inv-loop μ-loop
-returns-3 c = search needs
 
 pub main-spec : {M : Type 1} → statement M
 main-spec =
     tie.close
     (tie.spec
-    Inv-loop
-    μ-loop
     slice-aggregate-take-line
     take-line-requires
     array-share-prefix-line
-    slice-aggregate-first-line
-    first-line-requires
+    slice-aggregate-answer-first
+    slice-aggregate-answer-first-2
+    answer-first-requires
     enum-known-start
-    enum-told
+    array-share-prefix-out
+    slice-aggregate-write-all
+    write-all-requires
+    enum-known-start-2
+    array-share-prefix-out-2
+    slice-aggregate-write-all-2
+    write-all-requires-2
+    print-answers-requires
     returns
-    loop-holds
-    slice-aggregate-take-line-2
-    take-line-requires-2
-    returns-2
-    cast-answer-line
-    array-share-prefix-line-2
-    slice-aggregate-answer-line
-    answer-line-requires
-    add-number
-    loop-less
-    loop-again
-    returns-3)
+    returns-2)

@@ -1,2 +1,0 @@
--- Words of the program's contracts.
-pub mod Printed

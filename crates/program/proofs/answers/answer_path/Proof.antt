@@ -1,0 +1,61 @@
+-- `program::answers::answer_path` meets its contract. Assumes nothing.
+use mir.Syntax.{w64}
+use mir.Val.{SFits}
+use mir.Facts.{toZ-ofZ}
+use Rattle.program.proofs.Given.{refused-line, path-refused, path-drawn}
+use borrow.Author.Needs.{needs}
+use Rattle.program.proofs.answers.answer_path.Statement.{statement}
+use Rattle.program.proofs.answers.answer_path.Tie as tie
+
+clip-requires : tie.Need-clip-requires
+clip-requires c κs = search needs
+
+enum-known-answer : tie.Need-enum-known-answer
+enum-known-answer c = search needs
+
+write-why-requires : tie.Need-write-why-requires
+write-why-requires c κs = search needs
+
+enum-known-answer-2 : tie.Need-enum-known-answer-2
+enum-known-answer-2 c = search needs
+
+write-drawn-requires : tie.Need-write-drawn-requires
+write-drawn-requires c κs = search needs
+
+same-length : tie.Need-same-length
+same-length c = search needs
+
+returns : tie.Need-returns
+returns c =
+    let s : tie.Start = search in
+    let k : tie.After-clip = search in
+    let e : tie.After-answer = search in
+    let w : tie.After-write-why = search in
+    let f : SFits w64 (s .args .line) = search needs in
+    path-refused (s .args .closed) (s .args .line) (s .args .rect) (s .args .path .now) (k .clip .ensures) _ (e .answer .given .1) (refused-line _ (toZ-ofZ f) (w .write-why .ensures))
+
+same-length-2 : tie.Need-same-length-2
+same-length-2 c = search needs
+
+returns-2 : tie.Need-returns-2
+returns-2 c =
+    let s : tie.Start = search in
+    let k : tie.After-clip = search in
+    let e : tie.After-answer2 = search in
+    let w : tie.After-write-drawn = search in
+    let f : SFits w64 (s .args .line) = search needs in
+    path-drawn (s .args .closed) (s .args .line) (s .args .rect) (s .args .path .now) (k .clip .ensures) _ (e .answer2 .given .1) (toZ-ofZ f) (w .write-drawn .ensures)
+
+pub answer-path-spec : {M : Type 1} → statement M
+answer-path-spec =
+    tie.close
+    (tie.spec
+    clip-requires
+    enum-known-answer
+    write-why-requires
+    enum-known-answer-2
+    write-drawn-requires
+    same-length
+    returns
+    same-length-2
+    returns-2)

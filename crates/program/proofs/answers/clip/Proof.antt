@@ -1,0 +1,62 @@
+-- `program::answers::clip` meets its contract. Assumes nothing.
+use mathlib.Core.Path.{sym}
+use lib.IntN.{pos}
+use Rattle.program.proofs.Given.{left-closed, left-open}
+use borrow.Author.Needs.{needs}
+use Rattle.program.proofs.answers.clip.Statement.{statement}
+use Rattle.program.proofs.answers.clip.Tie as tie
+
+new-requires : tie.Need-new-requires
+new-requires c κs = search needs
+
+slice-aggregate-execute : tie.Need-slice-aggregate-execute
+slice-aggregate-execute c = search needs
+
+slice-aggregate-execute-2 : tie.Need-slice-aggregate-execute-2
+slice-aggregate-execute-2 c = search needs
+
+execute-requires : tie.Need-execute-requires
+execute-requires c κs = search needs
+
+returns : tie.Need-returns
+returns c =
+    let s : tie.Start = search in
+    let n : tie.After-new = search in
+    let x : tie.After-execute = search in
+    let t : tie.Then1 = search in
+    left-closed (s .args .closed) (s .args .path .now) (s .args .coordinates .now) (s .args .lengths .now) _ (n .new .ensures) (t .if1 .taken) (x .execute .ensures)
+
+new-requires-2 : tie.Need-new-requires-2
+new-requires-2 c κs = search needs
+
+slice-aggregate-execute-3 : tie.Need-slice-aggregate-execute-3
+slice-aggregate-execute-3 c = search needs
+
+slice-aggregate-execute-4 : tie.Need-slice-aggregate-execute-4
+slice-aggregate-execute-4 c = search needs
+
+execute-requires-2 : tie.Need-execute-requires-2
+execute-requires-2 c κs = search needs
+
+returns-2 : tie.Need-returns-2
+returns-2 c =
+    let s : tie.Start = search in
+    let n : tie.After-new2 = search in
+    let x : tie.After-execute2 = search in
+    let t : tie.Else1 = search in
+    left-open (s .args .closed) (s .args .path .now) (s .args .coordinates .now) (s .args .lengths .now) _ (n .new2 .ensures) (t .if1 .left) (x .execute2 .ensures)
+
+pub clip-spec : {M : Type 1} → statement M
+clip-spec =
+    tie.close
+    (tie.spec
+    new-requires
+    slice-aggregate-execute
+    slice-aggregate-execute-2
+    execute-requires
+    returns
+    new-requires-2
+    slice-aggregate-execute-3
+    slice-aggregate-execute-4
+    execute-requires-2
+    returns-2)

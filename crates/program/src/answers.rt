@@ -1,0 +1,225 @@
+// What is printed for a line, written to the front of a lent list of bytes. A line that the list cannot hold is left out.
+ghost use mathlib.Core.Path.{_≡_};
+ghost use mathlib.Core.Bool.{true, false};
+ghost use mathlib.Core.List.{[], _∷_};
+ghost use Prim.Native.Nat.{_≤_, min};
+ghost use lib.IntN.{pos};
+ghost use lib.ListN.{length, take};
+ghost use Rattle.program.specs.Printed.{Added, Gives, PathEnd, lines-of};
+ghost use Rattle.program.specs.Answered.{First, called, drawn-lines, path-answer, answer-lines};
+ghost use Rattle.text.specs.Asked.{request};
+ghost use Rattle.text.specs.Reading.{unreadable, rectangle};
+ghost use Rattle.text.specs.Written.{Written, coordinates-line};
+ghost use Rattle.text.specs.Printing.{line-of};
+ghost use Rattle.entry.specs.Answers.{number};
+ghost use Rattle.rectclip.specs.Promises.{Leaves};
+use plane::rect::Rect64;
+use entry::answer::Answer;
+use entry::answer::Refusal;
+use rectclip::lines::RectClipLines64;
+use rectclip::rect_clip::RectClip64;
+use text::reading::Request;
+use text::reading::read_line;
+use text::writing::write_path;
+use text::writing::write_rectangle;
+use text::writing::write_refusal;
+
+// What line 1 gives: a refusal, or the rectangle of the lines that follow; and how many bytes are written.
+pub enum Start {
+    Refused(usize),
+    Ready(Rect64, usize),
+}
+
+// `X`, the line and the refusal's number.
+fn write_why(line: i64, why: Refusal, out: &mut [u8]) -> usize
+    ensures { λ r. ⌜ Written (line-of 88 (line ∷ pos (number why) ∷ [])) (now (out .entry)) r (now (out .exit)) ⌝ }
+{
+    write_refusal(line, why.number() as i64, out)
+}
+
+// Line 1 where it cannot be read.
+fn unreadable_first(out: &mut [u8]) -> Start
+    ensures { λ r. ⌜ First unreadable (now (out .entry)) r (now (out .exit)) ⌝ }
+{
+    Start::Refused(write_why(1, Refusal::UnreadableLine, out))
+}
+
+fn answer_rectangle(rect: Rect64, out: &mut [u8]) -> Start
+    ensures { λ r. ⌜ First (rectangle rect) (now (out .entry)) r (now (out .exit)) ⌝ }
+{
+    if rect.in_limit() {
+        return Start::Ready(rect, write_rectangle(rect, out));
+    }
+    Start::Refused(write_why(1, Refusal::RectangleOutside, out))
+}
+
+// Line 1.
+pub fn answer_first(bytes: &[u8], out: &mut [u8]) -> Start
+    ensures { λ r. ⌜ First (request true (now (bytes .entry))) (now (out .entry)) r (now (out .exit)) ⌝ }
+{
+    let mut numbers = [0i64; 1];
+    let request = read_line(true, bytes, &mut numbers);
+    match request {
+        Request::Rectangle(rect) => answer_rectangle(rect, out),
+        Request::Path(_, _) => unreadable_first(out),
+        Request::Unreadable => unreadable_first(out),
+    }
+}
+
+// The line of one path, behind the bytes that are written; answers where it ends.
+fn add_path(closed: bool, line: i64, path: &[i64], out: &mut [u8], end: usize) -> usize
+    requires { ⌜ end ≤ length (now out) ⌝ }
+    ensures { λ r. ⌜ Added (coordinates-line closed line (now (path .entry))) end (now (out .entry)) r (now (out .exit)) ⌝ }
+{
+    let n = write_path(closed, line, path, &mut out[end..]);
+    end + n
+}
+
+// Where a path of so many points ends that begins at `at`; at most at the list's end.
+fn path_end(coordinates: &[i64], at: usize, points: u32) -> usize
+    requires { ⌜ at ≤ length (now coordinates) ⌝ }
+    ensures { λ r. ⌜ PathEnd (length (now (coordinates .entry))) at points r ⌝ }
+{
+    let room = coordinates.len() - at;
+    let size = 2 * (points as usize);
+    if room < size {
+        return coordinates.len();
+    }
+    at + size
+}
+
+// The lines of paths: their lengths and, one path behind another, their coordinates.
+fn write_paths(
+    closed: bool,
+    line: i64,
+    coordinates: &[i64],
+    lengths: &[u32],
+    out: &mut [u8],
+) -> usize
+    ensures { λ r. ⌜ Gives (lines-of closed line (now (lengths .entry)) (now (coordinates .entry))) (now (out .entry)) r (now (out .exit)) ⌝ }
+{
+    let mut i: usize = 0;
+    let mut at: usize = 0;
+    let mut end: usize = 0;
+    while i < lengths.len() {
+        let next = path_end(coordinates, at, lengths[i]);
+        end = add_path(closed, line, &coordinates[at..next], out, end);
+        at = next;
+        i += 1;
+    }
+    end
+}
+
+fn least(a: usize, b: usize) -> usize
+    ensures { λ r. ⌜ r ≡ min a b ⌝ }
+{
+    if a < b { a } else { b }
+}
+
+// The lines of so many paths, as far as they have lengths.
+fn write_counted(
+    closed: bool,
+    line: i64,
+    paths: usize,
+    coordinates: &[i64],
+    lengths: &[u32],
+    out: &mut [u8],
+) -> usize
+    ensures { λ r. ⌜ Gives (lines-of closed line (take paths (now (lengths .entry))) (now (coordinates .entry))) (now (out .entry)) r (now (out .exit)) ⌝ }
+{
+    let n = least(paths, lengths.len());
+    write_paths(closed, line, coordinates, &lengths[..n], out)
+}
+
+// The lines of a result.
+fn write_drawn(
+    closed: bool,
+    line: i64,
+    paths: u32,
+    coordinates: &[i64; 512],
+    lengths: &[u32; 257],
+    out: &mut [u8],
+) -> usize
+    ensures { λ r. ⌜ Gives (lines-of closed line (take paths (now (lengths .entry))) (now (coordinates .entry))) (now (out .entry)) r (now (out .exit)) ⌝ }
+{
+    write_counted(closed, line, paths as usize, coordinates, lengths, out)
+}
+
+// W = A = 256.
+fn clip(
+    rect: Rect64,
+    closed: bool,
+    path: &[i64],
+    coordinates: &mut [i64; 512],
+    lengths: &mut [u32; 257],
+) -> Answer
+    ensures { λ r. ⌜ Leaves (called closed rect (now (path .entry)) (now (coordinates .entry)) (now (lengths .entry))) r (now (coordinates .exit)) (now (lengths .exit)) ⌝ }
+{
+    let mut store = [0i64; 512];
+    let mut work = [0u32; 8208];
+    if closed {
+        return RectClip64::new(rect).execute(
+            path,
+            256,
+            &mut store,
+            &mut work,
+            coordinates,
+            lengths,
+        );
+    }
+    RectClipLines64::new(rect).execute(path, &mut store, &mut work, coordinates, lengths)
+}
+
+// A path of at most 128 points. A result has at most W points and A + 1 paths, so the lists have room for every one.
+fn answer_path(rect: Rect64, closed: bool, line: i64, path: &[i64], out: &mut [u8]) -> usize
+    ensures { λ r. ⌜ Gives (drawn-lines closed line rect (now (path .entry))) (now (out .entry)) r (now (out .exit)) ⌝ }
+{
+    let mut coordinates = [0i64; 512];
+    let mut lengths = [0u32; 257];
+    let answer = clip(rect, closed, path, &mut coordinates, &mut lengths);
+    match answer {
+        Answer::Refused(why) => write_why(line, why, out),
+        Answer::Drawn(counts) => write_drawn(
+            closed,
+            line,
+            counts.paths,
+            &coordinates,
+            &lengths,
+            out,
+        ),
+    }
+}
+
+// A path of so many numbers at the list's front.
+fn answer_numbers(
+    rect: Rect64,
+    closed: bool,
+    line: i64,
+    numbers: &[i64],
+    count: usize,
+    out: &mut [u8],
+) -> usize
+    requires { ⌜ 256 ≤ length (now numbers) ⌝ }
+    ensures { λ r. ⌜ Gives (path-answer rect line closed count (take count (now (numbers .entry)))) (now (out .entry)) r (now (out .exit)) ⌝ }
+{
+    if count % 2 == 1 {
+        return write_why(line, Refusal::OddCoordinates, out);
+    }
+    if 256 < count {
+        return write_why(line, Refusal::PathTooLong, out);
+    }
+    answer_path(rect, closed, line, &numbers[..count], out)
+}
+
+// A line behind line 1.
+pub fn answer_line(rect: Rect64, line: i64, bytes: &[u8], out: &mut [u8]) -> usize
+    ensures { λ r. ⌜ Gives (answer-lines rect line (request false (now (bytes .entry)))) (now (out .entry)) r (now (out .exit)) ⌝ }
+{
+    let mut numbers = [0i64; 2048];
+    let request = read_line(false, bytes, &mut numbers);
+    match request {
+        Request::Path(closed, count) => { answer_numbers(rect, closed, line, &numbers, count, out) }
+        Request::Rectangle(_) => write_why(line, Refusal::UnreadableLine, out),
+        Request::Unreadable => write_why(line, Refusal::UnreadableLine, out),
+    }
+}

@@ -1,0 +1,3 @@
+-- Words of the replay program's contracts.
+pub mod Same
+pub mod Fits
