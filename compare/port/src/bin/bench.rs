@@ -1,13 +1,13 @@
 //! Time per call of the port, of the Rust and, with the feature `geos`, of GEOS's clip by rectangle, on the same drawings in
 //! one run, with ratios, as the tables of docs/PERFORMANCE.md.
 //!
-//!     bench [MILLISECONDS]                            how long each drawing is measured (600 unless given)
+//!     bench [MILLISECONDS [DRAWING]]                  how long each row is measured (600 unless given); one drawing's rows
 //!     bench --calls COUNT WHO CLIPPER DRAWING SIZE    so many calls of one of them and nothing else, for a profiler:
 //!                                                     port, Rust or GEOS; closed or lines; a drawing of the table; points
 //!
 //! The port's lists have W and A sized to the drawing; clearing them is part of every call. The Rust allocates as it does.
 //! GEOS's input is built before, and its result is freed in the call. The three take turns, batch by batch, and each figure
-//! is the fastest batch.
+//! is the fastest batch; a batch of more than two milliseconds is measured in processor time of the thread.
 
 use compare::judge::{path_of, rect_of, run, Kind, Rect, MAX_POINTS, MAX_TURNS};
 use compare::lists::least;
@@ -20,14 +20,15 @@ use std::time::{Duration, Instant};
 
 const SIZES: [usize; 4] = [16, 128, 1_024, 4_096];
 const RECT: Rect = [0, 0, 1_000_000, 1_000_000];
-const USAGE: &str = "usage: bench [MILLISECONDS], or bench --calls COUNT WHO CLIPPER DRAWING SIZE";
+const USAGE: &str = "usage: bench [MILLISECONDS [DRAWING]], or bench --calls COUNT WHO CLIPPER DRAWING SIZE";
 
 fn main() {
     let words: Vec<String> = std::env::args().skip(1).collect();
     let words: Vec<&str> = words.iter().map(String::as_str).collect();
     match words[..] {
-        [] => tables(600),
-        [time] => tables(number(time)),
+        [] => tables(600, None),
+        [time] => tables(number(time), None),
+        [time, drawing] => tables(number(time), Some(drawing)),
         ["--calls", count, who, clipper, drawing, size] => calls(number(count), who, clipper, drawing, number(size)),
         _ => panic!("{USAGE}"),
     }
@@ -45,16 +46,18 @@ fn clipper_name(kind: Kind) -> &'static str {
     }
 }
 
-fn tables(milliseconds: usize) {
-    KINDS.iter().for_each(|&kind| table(kind, Duration::from_millis(milliseconds as u64)));
+fn tables(milliseconds: usize, only: Option<&str>) {
+    #[cfg(feature = "geos")]
+    println!("GEOS {}", port::geos::version());
+    KINDS.iter().for_each(|&kind| table(kind, Duration::from_millis(milliseconds as u64), only));
 }
 
-/// One clipper on every drawing and size.
-fn table(kind: Kind, time: Duration) {
+/// One clipper on every drawing, or one alone, and every size.
+fn table(kind: Kind, time: Duration, only: Option<&str>) {
     println!("\n## {}\n", if kind == Kind::Closed { "Polygons" } else { "Lines" });
     println!("| drawing | points | paths | turns | port ns | Rust ns | port / Rust | GEOS ns | port / GEOS |");
     println!("|---|---|---|---|---|---|---|---|---|");
-    for (name, make) in DRAWINGS {
+    for (name, make) in DRAWINGS.into_iter().filter(|&(name, _)| only.is_none_or(|one| one == name)) {
         for size in SIZES {
             let path = make(size);
             let run = run(kind, RECT, &path);
@@ -152,36 +155,60 @@ fn size(kind: Kind, path: &[i64]) -> f64 {
     }
 }
 
-/// Nanoseconds a call of each, the fastest of the batches that fit the time. Batches of some 200 microseconds take turns.
+/// Nanoseconds a call of each, the fastest of its batches. Batches of some 200 microseconds take turns until the time is over,
+/// twenty rounds at least.
 fn fastest(time: Duration, calls: &mut [Option<Call>; 3]) -> [Option<f64>; 3] {
     let mut batches = [0_u32; 3];
     for (call, batch) in calls.iter_mut().zip(&mut batches) {
         let Some(call) = call else { continue };
-        call();
-        let once = Instant::now();
-        call();
-        *batch = (200_000 / once.elapsed().as_nanos().max(1)).clamp(1, 10_000) as u32;
+        let once = (0..10).map(|_| spent_by(&mut *call)).fold(f64::MAX, f64::min);
+        *batch = (200_000.0 / once).clamp(1.0, 10_000.0) as u32;
     }
     let (begun, mut best) = (Instant::now(), [None; 3]);
-    while begun.elapsed() < time {
+    for round in 0.. {
+        if round >= 20 && begun.elapsed() > time {
+            break;
+        }
         for i in 0..3 {
             let Some(call) = &mut calls[i] else { continue };
-            let start = Instant::now();
-            (0..batches[i]).for_each(|_| call());
-            let ns = start.elapsed().as_nanos() as f64 / f64::from(batches[i]);
+            let ns = spent_by(|| (0..batches[i]).for_each(|_| call())) / f64::from(batches[i]);
             best[i] = Some(best[i].map_or(ns, |least: f64| least.min(ns)));
         }
     }
     best
 }
 
+/// Nanoseconds that this takes; of processor time where it is so long that the system may have interrupted it.
+fn spent_by(work: impl FnOnce()) -> f64 {
+    let (start_of_thread, start) = (thread_time(), Instant::now());
+    work();
+    let (all, thread) = (start.elapsed(), thread_time() - start_of_thread);
+    if all > Duration::from_millis(2) {
+        thread
+    } else {
+        all.as_nanos() as f64
+    }
+}
+
+/// The processor time of this thread so far, in nanoseconds (POSIX's CLOCK_THREAD_CPUTIME_ID, which is 3 on Linux).
+fn thread_time() -> f64 {
+    extern "C" {
+        fn clock_gettime(clock: i32, time: *mut [i64; 2]) -> i32;
+    }
+    let mut time = [0; 2];
+    let failed = unsafe { clock_gettime(3, &mut time) };
+    assert_eq!(failed, 0, "the system tells a thread's processor time");
+    time[0] as f64 * 1e9 + time[1] as f64
+}
+
 type Make = fn(usize) -> Vec<i64>;
-const DRAWINGS: [(&str, Make); 5] = [
+const DRAWINGS: [(&str, Make); 6] = [
     ("inside", inside),
     ("circle across the edges", circle),
     ("random walk", random_walk),
     ("comb", comb),
     ("comb closed outside", closed_comb),
+    ("two combs apart", two_combs),
 ];
 
 fn round(size: usize, radius: f64) -> Vec<i64> {
@@ -218,4 +245,13 @@ fn closed_comb(size: usize) -> Vec<i64> {
     let last = path[2 * size - 6];
     path.splice(2 * size - 4.., [last, -2_000, 50_000, -2_000]);
     path
+}
+
+/// Teeth to the right along one half of the top edge and to the left along the other: no two overlap, so that no tidy turn
+/// finds something to do.
+fn two_combs(size: usize) -> Vec<i64> {
+    let (half, step) = (size as i64 / 2, 800_000 / size as i64);
+    let across = |i: i64| if (i + 1) / 2 % 2 == 0 { 1_000 } else { -1_000 };
+    let onward = (0..half).flat_map(|i| [50_000 + i * step, across(i)]);
+    onward.chain((0..half).flat_map(|i| [950_000 - i * step, across(i)])).collect()
 }
