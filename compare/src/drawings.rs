@@ -124,7 +124,8 @@ pub fn random_drawing(random: &mut Random, most: usize) -> Drawing {
 
 type Family = fn(&mut Random, usize) -> (Rect, Vec<i64>);
 
-const FAMILIES: [Family; 9] = [grid, on_lines, rectilinear, spikes, around, comb, thin, large, wide];
+const FAMILIES: [Family; 12] =
+    [grid, on_lines, rectilinear, spikes, around, comb, thin, large, wide, star, spiral, square_spiral];
 
 /// Any points of a grid little larger than the rectangle.
 fn grid(random: &mut Random, most: usize) -> (Rect, Vec<i64>) {
@@ -234,10 +235,81 @@ fn large(random: &mut Random, most: usize) -> (Rect, Vec<i64>) {
 
 /// Points anywhere about a rectangle of middling size.
 fn wide(random: &mut Random, most: usize) -> (Rect, Vec<i64>) {
-    let (x, y) = (random.between(-500, 500), random.between(-500, 500));
-    let rect = [x, y, x + random.between(1, 700), y + random.between(1, 700)];
+    let rect = middling_rect(random);
     let points = 2 + random.below(most);
     (rect, many(points, || [random.between(-1000, 1000), random.between(-1000, 1000)]))
+}
+
+/// A star that crosses itself: every so manieth of the points of a circle, the centre in or out of the rectangle.
+fn star(random: &mut Random, most: usize) -> (Rect, Vec<i64>) {
+    let scale = random.pick(&SCALES);
+    let rect = middling_rect(random).map(|side| scale * side);
+    let centre = centre(random, rect, scale);
+    let radius = scale * random.between(1, 1500);
+    let points = 5 + random.below(most.saturating_sub(4).max(1));
+    let step = 2 + random.below(points / 2);
+    (rect, (0..points).flat_map(|i| on_circle(centre, radius, i * step, points)).collect())
+}
+
+/// A spiral of some points a round, the centre in or out of the rectangle.
+fn spiral(random: &mut Random, most: usize) -> (Rect, Vec<i64>) {
+    let scale = random.pick(&SCALES);
+    let rect = middling_rect(random).map(|side| scale * side);
+    let centre = centre(random, rect, scale);
+    let (inner, outer) = (scale * random.between(0, 300), scale * random.between(300, 1500));
+    let points = 3 + random.below(most);
+    let a_round = random.pick(&[3, 4, 5, 8, 16, 64]);
+    let radius = |i: usize| inner + (outer - inner) * i as i64 / points as i64;
+    (rect, (0..points).flat_map(|i| on_circle(centre, radius(i), i, a_round)).collect())
+}
+
+/// A spiral whose arms run along the axes: many of them overlap the edges where they grow by one.
+fn square_spiral(random: &mut Random, most: usize) -> (Rect, Vec<i64>) {
+    let rect = middling_rect(random);
+    let points = 3 + random.below(most);
+    let growth = random.between(1, 1 + 2_000 / points as i64);
+    let mut point = centre(random, rect, 1);
+    let mut arm = 0;
+    let path = many(points, || {
+        let onward = if arm % 4 < 2 { 1 } else { -1 };
+        point[arm % 2] += onward * growth * (1 + arm as i64 / 2);
+        arm += 1;
+        point
+    });
+    (rect, path)
+}
+
+/// How large stars and spirals are drawn; the larger takes them close to the limit.
+const SCALES: [i64; 3] = [1, 1, 13_000];
+
+/// A rectangle of middling size.
+fn middling_rect(random: &mut Random) -> Rect {
+    let (x, y) = (random.between(-500, 500), random.between(-500, 500));
+    [x, y, x + random.between(1, 700), y + random.between(1, 700)]
+}
+
+/// A centre in the rectangle, or anywhere about it.
+fn centre(random: &mut Random, [left, top, right, bottom]: Rect, scale: i64) -> [i64; 2] {
+    if random.one_in(2) {
+        [random.between(left, right), random.between(top, bottom)]
+    } else {
+        [scale * random.between(-1000, 1000), scale * random.between(-1000, 1000)]
+    }
+}
+
+/// The point that stands after `at` of `of` equal steps round a circle.
+fn on_circle([x, y]: [i64; 2], radius: i64, at: usize, of: usize) -> [i64; 2] {
+    let part = (at % of) as f64 / of as f64;
+    let along = |part: f64| (radius as f64 * sine(part)) as i64;
+    [x + along((part + 0.25).fract()), y + along(part)]
+}
+
+/// Nearly the sine of a part of the full turn (Bhaskara's quotient, within 0.002): by sums, products and one quotient, so
+/// that every machine makes the same drawing.
+fn sine(part: f64) -> f64 {
+    let (half, sign) = if part < 0.5 { (2.0 * part, 1.0) } else { (2.0 * part - 1.0, -1.0) };
+    let bow = half * (1.0 - half);
+    sign * 16.0 * bow / (5.0 - 4.0 * bow)
 }
 
 /// A small rectangle, empty once in sixteen times.

@@ -1,6 +1,7 @@
 //! Facts that are expected of every run of the Rust within the limits. Each answers false for a counterexample.
 
-use crate::judge::{coordinates_of, doubled_area, path_of, rect_of, Kind, Rect, Run, MAX_COORDINATE};
+use crate::judge::{doubled_area, Kind, Rect, Run};
+use crate::sources::Sources;
 
 pub type Fact = fn(Kind, Rect, &[i64], &Run) -> bool;
 
@@ -10,7 +11,7 @@ pub const FACTS: [(&str, Fact); 6] = [
     ("doubled areas of the returned paths sum to the outline's", areas_add_up),
     ("what is not walked is copied or gives nothing", unwalked_is_copied),
     ("no returned point lies more than one unit outside", at_most_one_outside),
-    ("every returned point is an input point, a corner, or near an exact crossing", has_source),
+    ("every returned point is an input point in the rectangle, a corner, or near an exact crossing", has_source),
     ("points at most 3n - 1 and start sides at most 2n; lines at most 2n - 2 points", walk_is_short),
 ];
 
@@ -41,43 +42,14 @@ fn walk_is_short(kind: Kind, _: Rect, path: &[i64], run: &Run) -> bool {
 }
 
 fn has_source(kind: Kind, rect: Rect, path: &[i64], run: &Run) -> bool {
-    let corners = coordinates_of(&rect_of(rect).as_path());
-    let known = |p: &[i64]| path.chunks(2).chain(corners.chunks(2)).any(|q| p == q);
-    let sourced = |p: &[i64]| known(p) || segments(kind, path).any(|(a, b)| near_crossing(p, a, b, rect));
-    run.paths.iter().flat_map(|p| p.chunks(2)).all(sourced)
+    let sources = Sources::of(kind, rect, path);
+    run.paths.iter().flat_map(|p| p.chunks(2)).all(|p| sources.has([p[0], p[1]]))
 }
 
-/// The segments of a path; of a closed one with its closing segment.
-fn segments(kind: Kind, path: &[i64]) -> impl Iterator<Item = ([i64; 2], [i64; 2])> {
-    let points: Vec<[i64; 2]> = path_of(path).iter().map(|p| [p.x, p.y]).collect();
-    let n = points.len();
-    let count = if kind == Kind::Closed { n } else { n.saturating_sub(1) };
-    (0..count).map(move |i| (points[i], points[(i + 1) % n]))
-}
-
-/// Whether p is near the exact crossing of the segment and some side of the rectangle.
-fn near_crossing(p: &[i64], a: [i64; 2], b: [i64; 2], [left, top, right, bottom]: Rect) -> bool {
-    [(0, left, top, bottom), (0, right, top, bottom), (1, top, left, right), (1, bottom, left, right)]
-        .into_iter()
-        .any(|(across, line, low, high)| near_one_crossing(p, a, b, across, line, low, high))
-}
-
-/// The crossing with the edge on which coordinate `across` is `line` and the other one runs from `low` to `high`.
-/// Its coordinate along the edge is `along / extent`; distances are multiplied by that extent and by the limit.
-fn near_one_crossing(p: &[i64], a: [i64; 2], b: [i64; 2], across: usize, line: i64, low: i64, high: i64) -> bool {
-    let (a, b) = if a[across] < b[across] { (a, b) } else { (b, a) };
-    let wide = i128::from;
-    let extent = wide(b[across] - a[across]);
-    if extent == 0 || line < a[across] || b[across] < line {
-        return false;
-    }
-    let other = 1 - across;
-    let along = wide(a[other]) * extent + wide(line - a[across]) * wide(b[other] - a[other]);
-    let on_edge = wide(low) * extent <= along && along <= wide(high) * extent;
-    let limit = wide(MAX_COORDINATE);
-    let close =
-        |coordinate: i64, crossing: i128| (wide(coordinate) * extent - crossing).abs() * limit < extent * (limit + 1);
-    on_edge && close(p[across], wide(line) * extent) && close(p[other], along)
+/// The first fact that does not hold of a run with these returned paths in place of its own.
+pub fn broken(kind: Kind, rect: Rect, path: &[i64], run: &Run, returned: Vec<Vec<i64>>) -> Option<&'static str> {
+    let run = Run { paths: returned, ..run.clone() };
+    FACTS.iter().find(|(_, fact)| !fact(kind, rect, path, &run)).map(|&(name, _)| name)
 }
 
 #[cfg(test)]
@@ -117,16 +89,5 @@ mod tests {
         assert_eq!(against(&altered(|run| run.walked = false)), [copied]);
         assert_eq!(against(&altered(|run| run.paths = vec![vec![12, 5, 12, 6]])), [area, outside, source]);
         assert_eq!(against(&altered(|run| run.start_sides = 9)), [short]);
-    }
-
-    #[test]
-    fn near_is_at_most_a_little_over_one() {
-        // The segment 0,0 to 3,10 crosses y = 5 at x = 3/2.
-        let near = |p: [i64; 2]| near_one_crossing(&p, [0, 0], [3, 10], 1, 5, 0, 9);
-        assert!(near([1, 5]) && near([2, 5]) && near([2, 4]) && near([1, 6]));
-        assert!(!near([0, 5]) && !near([3, 5]) && !near([1, 3]) && !near([1, 7]));
-        assert!(!near_one_crossing(&[1, 5], [0, 0], [3, 10], 1, 5, 2, 9), "the crossing is off the edge");
-        assert!(!near_one_crossing(&[1, 5], [0, 5], [3, 5], 1, 5, 0, 9), "no extent across the edge");
-        assert!(!near_one_crossing(&[1, 5], [0, 6], [3, 10], 1, 5, 0, 9), "the segment ends before");
     }
 }

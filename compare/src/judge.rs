@@ -141,12 +141,16 @@ impl Run {
 
 /// The answer of a call: a refusal, or the result.
 pub fn clip(kind: Kind, rect: Rect, path: &[i64], lent: Lent) -> Answer {
-    let a = if kind == Kind::Closed { lent.a } else { 0 };
-    let early = list_refusal(path, lent.w, a, lent.work).or_else(|| sheet_refusal(MAX_PATH, rect, path));
-    match early {
+    match early_refusal(kind, rect, path, lent) {
         Some(number) => Answer::Refused(number),
-        None => late_answer(&run(kind, rect, path), Lent { a, ..lent }),
+        None => late_answer(&run(kind, rect, path), lent),
     }
+}
+
+/// Refusals 1 to 7.
+pub fn early_refusal(kind: Kind, rect: Rect, path: &[i64], lent: Lent) -> Option<u32> {
+    let a = if kind == Kind::Closed { lent.a } else { 0 };
+    list_refusal(path, lent.w, a, lent.work).or_else(|| sheet_refusal(MAX_PATH, rect, path))
 }
 
 /// Refusals 1 to 4.
@@ -182,8 +186,8 @@ pub fn in_limit(numbers: &[i64]) -> bool {
     numbers.iter().all(|n| (-MAX_COORDINATE..=MAX_COORDINATE).contains(n))
 }
 
-/// Refusals 8 to 11, or the result.
-fn late_answer(run: &Run, lent: Lent) -> Answer {
+/// Refusals 8 to 11, or the result, of a path that 1 to 7 let through. Lines have no turns, so A is not looked at for them.
+pub fn late_answer(run: &Run, lent: Lent) -> Answer {
     if let Some(number) = run.walk_refusal(lent.w) {
         return Answer::Refused(number);
     }
@@ -216,7 +220,7 @@ pub fn exported(kind: Kind, rect: Rect, bytes: &[u8], coordinates: usize, length
     if !bytes.len().is_multiple_of(8) {
         return Answer::Refused(1);
     }
-    let path: Vec<i64> = bytes.chunks(4).map(|b| i64::from(i32::from_le_bytes(b.try_into().unwrap()))).collect();
+    let path = signed_words(bytes);
     if let Some(number) = sheet_refusal(MAX_SHORT_PATH, rect, &path) {
         return Answer::Refused(number);
     }
@@ -225,6 +229,11 @@ pub fn exported(kind: Kind, rect: Rect, bytes: &[u8], coordinates: usize, length
         Answer::Drawn(_) if counts < 12 => Answer::Refused(11),
         answer => answer,
     }
+}
+
+/// The signed numbers of four bytes each, the lowest first.
+pub fn signed_words(bytes: &[u8]) -> Vec<i64> {
+    bytes.chunks_exact(4).map(|b| i32::from_le_bytes(b.try_into().unwrap()).into()).collect()
 }
 
 /// What the Rust does with one path within the limits. Stops with the input if the two copies differ, or one fails.

@@ -11,4 +11,5 @@ pub mod lists;
 pub mod program;
 pub mod random;
 pub mod reach;
+pub mod sources;
 mod tally;

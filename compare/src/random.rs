@@ -7,6 +7,11 @@ impl Random {
         Random(seed)
     }
 
+    /// The generator for one of many things that are made from a seed, each from its own number.
+    pub fn nth(seed: u64, number: u64) -> Self {
+        Random(Random(seed).bits() ^ Random(!number).bits())
+    }
+
     pub fn bits(&mut self) -> u64 {
         self.0 = self.0.wrapping_add(0x9e37_79b9_7f4a_7c15);
         let z = (self.0 ^ (self.0 >> 30)).wrapping_mul(0xbf58_476d_1ce4_e5b9);

@@ -1,81 +1,13 @@
-//! The port, as its static library exports it, behind safe functions. A Rattle slice passes as a pointer and a length.
+//! The port, as its static libraries export it, behind safe functions; what the comparing programs share; and GEOS to
+//! measure against. A Rattle slice passes as a pointer and a length.
 
-use compare::judge::{Kind, Lent, Rect};
+pub mod damage;
+pub mod firmware;
+#[cfg(feature = "geos")]
+pub mod geos;
+pub mod harness;
+pub mod series;
 
-mod exported {
-    extern "C" {
-        #[allow(clippy::too_many_arguments)]
-        pub fn harness_rect_clip_lines64(
-            left: i64, top: i64, right: i64, bottom: i64,
-            path: *const i64, path_len: usize,
-            store: *mut i64, store_len: usize, work: *mut u32, work_len: usize,
-            coordinates: *mut i64, coordinates_len: usize, lengths: *mut u32, lengths_len: usize,
-            counts: *mut u32, counts_len: usize,
-        ) -> u32;
-        #[cfg(feature = "closed")]
-        pub fn harness_rect_clip64(
-            left: i64, top: i64, right: i64, bottom: i64,
-            path: *const i64, path_len: usize, allowance: u32,
-            store: *mut i64, store_len: usize, work: *mut u32, work_len: usize,
-            coordinates: *mut i64, coordinates_len: usize, lengths: *mut u32, lengths_len: usize,
-            counts: *mut u32, counts_len: usize,
-        ) -> u32;
-        pub fn harness_present(left: i64, top: i64, right: i64, bottom: i64, path: *const i64, path_len: usize) -> u32;
-    }
-}
+use compare::judge::Kind;
 
-/// The clippers that the library exports.
-pub const KINDS: &[Kind] = if cfg!(feature = "closed") { &[Kind::Closed, Kind::Open] } else { &[Kind::Open] };
-
-/// The lists that a call is lent.
-#[derive(Clone, Debug, PartialEq, Eq)]
-pub struct Lists {
-    pub store: Vec<i64>,
-    pub work: Vec<u32>,
-    pub coordinates: Vec<i64>,
-    pub lengths: Vec<u32>,
-    pub counts: Vec<u32>,
-}
-
-impl Lists {
-    /// Lists of the given sizes, filled with what `number` gives.
-    pub fn filled(lent: Lent, mut number: impl FnMut() -> u64) -> Self {
-        Lists {
-            store: (0..2 * lent.w).map(|_| number() as i64).collect(),
-            work: (0..lent.work).map(|_| number() as u32).collect(),
-            coordinates: (0..lent.coordinates).map(|_| number() as i64).collect(),
-            lengths: (0..lent.lengths).map(|_| number() as u32).collect(),
-            counts: (0..3).map(|_| number() as u32).collect(),
-        }
-    }
-}
-
-/// The port's answer: 0 or the refusal's number.
-pub fn clip(kind: Kind, rect: Rect, path: &[i64], allowance: u32, lists: &mut Lists) -> u32 {
-    let [left, top, right, bottom] = rect;
-    let Lists { store, work, coordinates, lengths, counts } = lists;
-    unsafe {
-        match kind {
-            Kind::Open => exported::harness_rect_clip_lines64(
-                left, top, right, bottom, path.as_ptr(), path.len(),
-                store.as_mut_ptr(), store.len(), work.as_mut_ptr(), work.len(),
-                coordinates.as_mut_ptr(), coordinates.len(), lengths.as_mut_ptr(), lengths.len(),
-                counts.as_mut_ptr(), counts.len(),
-            ),
-            #[cfg(not(feature = "closed"))]
-            Kind::Closed => panic!("the library has no polygon clipper; allowance {allowance}"),
-            #[cfg(feature = "closed")]
-            Kind::Closed => exported::harness_rect_clip64(
-                left, top, right, bottom, path.as_ptr(), path.len(), allowance,
-                store.as_mut_ptr(), store.len(), work.as_mut_ptr(), work.len(),
-                coordinates.as_mut_ptr(), coordinates.len(), lengths.as_mut_ptr(), lengths.len(),
-                counts.as_mut_ptr(), counts.len(),
-            ),
-        }
-    }
-}
-
-/// 0 no, 1 yes, 100 and the number for a refusal.
-pub fn present([left, top, right, bottom]: Rect, path: &[i64]) -> u32 {
-    unsafe { exported::harness_present(left, top, right, bottom, path.as_ptr(), path.len()) }
-}
+pub const KINDS: [Kind; 2] = [Kind::Closed, Kind::Open];

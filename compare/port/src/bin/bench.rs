@@ -1,49 +1,220 @@
-//! Time per call of the port and of the Rust, on the same inputs, in one run, and their ratio.
+//! Time per call of the port, of the Rust and, with the feature `geos`, of GEOS's clip by rectangle, on the same drawings in
+//! one run, with ratios, as the tables of docs/PERFORMANCE.md.
 //!
-//!     bench [MILLISECONDS]    how long each of the two is measured for each drawing (60 unless given)
+//!     bench [MILLISECONDS [DRAWING]]                  how long each row is measured (600 unless given); one drawing's rows
+//!     bench --calls COUNT WHO CLIPPER DRAWING SIZE    so many calls of one of them and nothing else, for a profiler:
+//!                                                     port, Rust or GEOS; closed or lines; a drawing of the table; points
 //!
 //! The port's lists have W and A sized to the drawing; clearing them is part of every call. The Rust allocates as it does.
-//! Each figure is the fastest of the batches that fit the time.
+//! GEOS's input is built before, and its result is freed in the call. The three take turns, batch by batch, and each figure
+//! is the fastest batch; a batch of more than two milliseconds is measured in processor time of the thread.
 
-use compare::judge::{self, path_of, rect_of, Kind, Rect};
+use compare::judge::{path_of, rect_of, run, Kind, Rect, MAX_POINTS, MAX_TURNS};
 use compare::lists::least;
 use compare::random::Random;
 use compare::rectclip::{RectClip64, RectClipLines64};
-use port::{clip, Lists, KINDS};
+use port::harness::{clip, Lists};
+use port::KINDS;
 use std::hint::black_box;
 use std::time::{Duration, Instant};
 
 const SIZES: [usize; 4] = [16, 128, 1_024, 4_096];
 const RECT: Rect = [0, 0, 1_000_000, 1_000_000];
+const USAGE: &str = "usage: bench [MILLISECONDS [DRAWING]], or bench --calls COUNT WHO CLIPPER DRAWING SIZE";
 
 fn main() {
-    let milliseconds = std::env::args().nth(1).map_or(60, |word| word.parse().expect("bench [MILLISECONDS]"));
-    let time = Duration::from_millis(milliseconds);
-    println!("{:8} {:12} {:>6} {:>12} {:>12} {:>7}", "clipper", "drawing", "points", "port ns", "Rust ns", "ratio");
-    for &kind in KINDS {
-        for (name, make) in DRAWINGS {
-            for size in SIZES {
-                let path = make(size);
-                let lent = least(kind, RECT, &path);
-                if lent.w > judge::MAX_POINTS || lent.a > judge::MAX_TURNS {
-                    println!("{kind:?} {name} {size}: needs W = {} and A = {}, more than a call may have", lent.w, lent.a);
-                    continue;
-                }
-                let port = port_time(kind, &path, time);
-                let rust = rust_time(kind, &path, time);
-                let clipper = if kind == Kind::Closed { "closed" } else { "lines" };
-                println!("{clipper:8} {name:12} {size:>6} {port:>12.0} {rust:>12.0} {:>7.2}", port / rust);
-            }
+    let words: Vec<String> = std::env::args().skip(1).collect();
+    let words: Vec<&str> = words.iter().map(String::as_str).collect();
+    match words[..] {
+        [] => tables(600, None),
+        [time] => tables(number(time), None),
+        [time, drawing] => tables(number(time), Some(drawing)),
+        ["--calls", count, who, clipper, drawing, size] => calls(number(count), who, clipper, drawing, number(size)),
+        _ => panic!("{USAGE}"),
+    }
+}
+
+fn number(word: &str) -> usize {
+    word.parse().unwrap_or_else(|e| panic!("{word}: {e}; {USAGE}"))
+}
+
+fn clipper_name(kind: Kind) -> &'static str {
+    if kind == Kind::Closed {
+        "closed"
+    } else {
+        "lines"
+    }
+}
+
+fn tables(milliseconds: usize, only: Option<&str>) {
+    #[cfg(feature = "geos")]
+    println!("GEOS {}", port::geos::version());
+    KINDS.iter().for_each(|&kind| table(kind, Duration::from_millis(milliseconds as u64), only));
+}
+
+/// One clipper on every drawing, or one alone, and every size.
+fn table(kind: Kind, time: Duration, only: Option<&str>) {
+    println!("\n## {}\n", if kind == Kind::Closed { "Polygons" } else { "Lines" });
+    println!("| drawing | points | paths | turns | port ns | Rust ns | port / Rust | GEOS ns | port / GEOS |");
+    println!("|---|---|---|---|---|---|---|---|---|");
+    for (name, make) in DRAWINGS.into_iter().filter(|&(name, _)| only.is_none_or(|one| one == name)) {
+        for size in SIZES {
+            let path = make(size);
+            let run = run(kind, RECT, &path);
+            let names = ["port", "Rust", "GEOS"];
+            let mut contestants = names.map(|who| contestant(who, kind, &path));
+            let best = fastest(time, &mut contestants);
+            let figure = |who: usize| best[who].map_or("—".to_string(), |ns| thousands(ns.round() as u64));
+            let ratio = |who: usize| match (best[0], best[who]) {
+                (Some(port), Some(other)) => format!("{:.2}", port / other),
+                _ => "—".to_string(),
+            };
+            let counts = [size, run.paths.len(), run.turns as usize].map(|n| thousands(n as u64)).join(" | ");
+            let [port, rust, geos] = [0, 1, 2].map(figure);
+            println!("| {name} | {counts} | {port} | {rust} | {} | {geos} | {} |", ratio(1), ratio(2));
         }
     }
 }
 
+fn thousands(n: u64) -> String {
+    if n < 1_000 {
+        n.to_string()
+    } else {
+        format!("{},{:03}", thousands(n / 1_000), n % 1_000)
+    }
+}
+
+/// Calls of one contestant, and nothing else.
+fn calls(count: usize, who: &str, clipper: &str, drawing: &str, size: usize) {
+    let kind = KINDS.into_iter().find(|&kind| clipper_name(kind) == clipper).expect(USAGE);
+    let (_, make) = DRAWINGS.into_iter().find(|&(name, _)| name == drawing).expect(USAGE);
+    let path = make(size);
+    let mut call = contestant(who, kind, &path).expect("it does this job");
+    (0..count).for_each(|_| call());
+}
+
+type Call<'a> = Box<dyn FnMut() + 'a>;
+
+/// One call of the named one, where it does the job.
+fn contestant<'a>(who: &str, kind: Kind, path: &'a [i64]) -> Option<Call<'a>> {
+    match who {
+        "port" => port_call(kind, path),
+        "Rust" => Some(rust_call(kind, path)),
+        "GEOS" => geos_call(kind, path),
+        _ => panic!("{who}: {USAGE}"),
+    }
+}
+
+/// Nothing where the drawing needs more than a call may have.
+fn port_call(kind: Kind, path: &[i64]) -> Option<Call<'_>> {
+    let lent = least(&run(kind, RECT, path));
+    if lent.w > MAX_POINTS || lent.a > MAX_TURNS {
+        return None;
+    }
+    let mut lists = Lists::filled(lent, || 0);
+    let refused = clip(kind, RECT, path, lent.a as u32, &mut lists);
+    assert_eq!(refused, 0, "{kind:?} of {} points with {lent:?}", path.len() / 2);
+    Some(Box::new(move || {
+        black_box(clip(kind, RECT, black_box(path), lent.a as u32, &mut lists));
+    }))
+}
+
+fn rust_call(kind: Kind, path: &[i64]) -> Call<'static> {
+    let (rect, paths) = (rect_of(RECT), vec![path_of(path)]);
+    match kind {
+        Kind::Closed => Box::new(move || {
+            black_box(RectClip64::new(rect).execute(black_box(&paths)));
+        }),
+        Kind::Open => Box::new(move || {
+            black_box(RectClipLines64::new(rect).execute(black_box(&paths)));
+        }),
+    }
+}
+
+#[cfg(not(feature = "geos"))]
+fn geos_call(_: Kind, _: &[i64]) -> Option<Call<'static>> {
+    None
+}
+
+/// Nothing where the job is not the same: a polygon that crosses itself, or another area or length than the Rust's.
+#[cfg(feature = "geos")]
+fn geos_call(kind: Kind, path: &[i64]) -> Option<Call<'static>> {
+    let geometry = port::geos::Geometry::new(kind, path);
+    let returned: f64 = run(kind, RECT, path).paths.iter().map(|p| size(kind, p)).sum();
+    let same = geometry.is_valid() && (geometry.clip(RECT).size() / returned.abs() - 1.0).abs() < 1e-3;
+    same.then(|| -> Call { Box::new(move || drop(black_box(black_box(&geometry).clip(RECT)))) })
+}
+
+/// The signed area of a polygon, or the length of a line.
+#[cfg(feature = "geos")]
+fn size(kind: Kind, path: &[i64]) -> f64 {
+    let length = |(p, q): (&[i64], &[i64])| ((q[0] - p[0]) as f64).hypot((q[1] - p[1]) as f64);
+    match kind {
+        Kind::Closed => compare::judge::doubled_area(path) as f64 / 2.0,
+        Kind::Open => path.chunks(2).zip(path[2..].chunks(2)).map(length).sum(),
+    }
+}
+
+/// Nanoseconds a call of each, the fastest of its batches. Batches of some 200 microseconds take turns until the time is over,
+/// twenty rounds at least.
+fn fastest(time: Duration, calls: &mut [Option<Call>; 3]) -> [Option<f64>; 3] {
+    let mut batches = [0_u32; 3];
+    for (call, batch) in calls.iter_mut().zip(&mut batches) {
+        let Some(call) = call else { continue };
+        let once = (0..10).map(|_| spent_by(&mut *call)).fold(f64::MAX, f64::min);
+        *batch = (200_000.0 / once).clamp(1.0, 10_000.0) as u32;
+    }
+    let (begun, mut best) = (Instant::now(), [None; 3]);
+    for round in 0.. {
+        if round >= 20 && begun.elapsed() > time {
+            break;
+        }
+        for i in 0..3 {
+            let Some(call) = &mut calls[i] else { continue };
+            let ns = spent_by(|| (0..batches[i]).for_each(|_| call())) / f64::from(batches[i]);
+            best[i] = Some(best[i].map_or(ns, |least: f64| least.min(ns)));
+        }
+    }
+    best
+}
+
+/// Nanoseconds that this takes; of processor time where it is so long that the system may have interrupted it.
+fn spent_by(work: impl FnOnce()) -> f64 {
+    let (start_of_thread, start) = (thread_time(), Instant::now());
+    work();
+    let (all, thread) = (start.elapsed(), thread_time() - start_of_thread);
+    if all > Duration::from_millis(2) {
+        thread
+    } else {
+        all.as_nanos() as f64
+    }
+}
+
+/// The processor time of this thread so far, in nanoseconds (POSIX's CLOCK_THREAD_CPUTIME_ID, which is 3 on Linux).
+fn thread_time() -> f64 {
+    extern "C" {
+        fn clock_gettime(clock: i32, time: *mut [i64; 2]) -> i32;
+    }
+    let mut time = [0; 2];
+    let failed = unsafe { clock_gettime(3, &mut time) };
+    assert_eq!(failed, 0, "the system tells a thread's processor time");
+    time[0] as f64 * 1e9 + time[1] as f64
+}
+
 type Make = fn(usize) -> Vec<i64>;
-const DRAWINGS: [(&str, Make); 4] = [("inside", inside), ("circle", circle), ("random walk", random_walk), ("comb", comb)];
+const DRAWINGS: [(&str, Make); 6] = [
+    ("inside", inside),
+    ("circle across the edges", circle),
+    ("random walk", random_walk),
+    ("comb", comb),
+    ("comb closed outside", closed_comb),
+    ("two combs apart", two_combs),
+];
 
 fn round(size: usize, radius: f64) -> Vec<i64> {
     let at = |i: usize| i as f64 * std::f64::consts::TAU / size as f64;
-    (0..size).flat_map(|i| [(500_000.0 + radius * at(i).cos()) as i64, (500_000.0 + radius * at(i).sin()) as i64]).collect()
+    let along = |part: f64| (500_000.0 + radius * part) as i64;
+    (0..size).flat_map(|i| [along(at(i).cos()), along(at(i).sin())]).collect()
 }
 
 /// A circle that stays within the rectangle.
@@ -62,48 +233,25 @@ fn random_walk(size: usize) -> Vec<i64> {
     (0..2 * size).map(|_| random.between(-200_000, 1_200_000)).collect()
 }
 
-/// Teeth along the top edge.
+/// Teeth along the top edge; as a polygon its closing segment runs through them.
 fn comb(size: usize) -> Vec<i64> {
     let step = 900_000 / size.max(1) as i64;
     (0..size as i64).flat_map(|i| [50_000 + i * step, if i / 2 % 2 == 0 { -1_000 } else { 1_000 }]).collect()
 }
 
-/// Nanoseconds a call, the fastest of the batches that fit the time.
-fn fastest(time: Duration, mut call: impl FnMut()) -> f64 {
-    call();
-    let once = Instant::now();
-    call();
-    let batch = (200_000 / once.elapsed().as_nanos().max(1)).clamp(1, 10_000) as u32;
-    let (begun, mut best) = (Instant::now(), f64::MAX);
-    while begun.elapsed() < time {
-        let start = Instant::now();
-        for _ in 0..batch {
-            call();
-        }
-        best = best.min(start.elapsed().as_nanos() as f64 / f64::from(batch));
-    }
-    best
+/// The comb with its last two points outside, so that it does not cross itself.
+fn closed_comb(size: usize) -> Vec<i64> {
+    let mut path = comb(size);
+    let last = path[2 * size - 6];
+    path.splice(2 * size - 4.., [last, -2_000, 50_000, -2_000]);
+    path
 }
 
-fn port_time(kind: Kind, path: &[i64], time: Duration) -> f64 {
-    let lent = least(kind, RECT, path);
-    let mut lists = Lists::filled(lent, || 0);
-    let refused = clip(kind, RECT, path, lent.a as u32, &mut lists);
-    assert_eq!(refused, 0, "{kind:?} of {} points with {lent:?}", path.len() / 2);
-    fastest(time, || {
-        black_box(clip(kind, RECT, black_box(path), lent.a as u32, &mut lists));
-    })
-}
-
-fn rust_time(kind: Kind, path: &[i64], time: Duration) -> f64 {
-    let paths = vec![path_of(path)];
-    let rect = rect_of(RECT);
-    match kind {
-        Kind::Closed => fastest(time, || {
-            black_box(RectClip64::new(rect).execute(black_box(&paths)));
-        }),
-        Kind::Open => fastest(time, || {
-            black_box(RectClipLines64::new(rect).execute(black_box(&paths)));
-        }),
-    }
+/// Teeth to the right along one half of the top edge and to the left along the other: no two overlap, so that no tidy turn
+/// finds something to do.
+fn two_combs(size: usize) -> Vec<i64> {
+    let (half, step) = (size as i64 / 2, 800_000 / size as i64);
+    let across = |i: i64| if (i + 1) / 2 % 2 == 0 { 1_000 } else { -1_000 };
+    let onward = (0..half).flat_map(|i| [50_000 + i * step, across(i)]);
+    onward.chain((0..half).flat_map(|i| [950_000 - i * step, across(i)])).collect()
 }
