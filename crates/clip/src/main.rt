@@ -1,11 +1,11 @@
 // The clip program: it reads standard input line by line and prints the answer to each.
 use libc::STDOUT_FILENO;
+use plane::rect::Rect64;
 use program::answers::Start;
 use program::answers::answer_first;
 use program::answers::answer_line;
 use program::input::Cursor;
 use program::input::take_line;
-use plane::rect::Rect64;
 
 // The lines behind line 1. Their numbers count up to one that no run comes to.
 fn print_answers(rect: Rect64, start: Cursor, buffer: &mut [u8; 65536]) {
