@@ -1,6 +1,4 @@
 -- `lines::answers::clip` meets its contract. Assumes nothing.
-use mathlib.Core.Path.{sym}
-use lib.IntN.{pos}
 use Rattle.lines.proofs.Given.{left-closed, left-open}
 use borrow.Author.Needs.{needs}
 use Rattle.lines.proofs.answers.clip.Statement.{statement}
