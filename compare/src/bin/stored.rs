@@ -70,8 +70,12 @@ struct Stored<W: Write> {
 
 impl<W: Write> Stored<W> {
     fn heading(&mut self, seed: u64, count: u64) -> io::Result<()> {
-        self.line("# Drawings with the answers of the unchanged Rust; the form is described in compare/src/bin/stored.rs.")?;
-        self.line(&format!("# Made in compare/ by: cargo run --offline --bin stored {seed} {count} > ../crates/replay/stdin"))
+        self.line(
+            "# Drawings with the answers of the unchanged Rust; the form is described in compare/src/bin/stored.rs.",
+        )?;
+        self.line(&format!(
+            "# Made in compare/ by: cargo run --offline --bin stored {seed} {count} > ../crates/replay/stdin"
+        ))
     }
 
     fn line(&mut self, text: &str) -> io::Result<()> {

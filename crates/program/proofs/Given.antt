@@ -4,11 +4,11 @@ use mathlib.Core.Bool.{Bool, true, false}
 use mathlib.Core.List.{List, [], _∷_, _++_}
 use Prim.Native.Nat.{ℕ, _+_, _%_, _<_, _≤_, min}
 use native.Mathlib.Omega.{arith}
-use lib.ListN.{length, take, drop, replicate, length-append, length-take, length-drop}
+use lib.ListN.{length, take, drop, replicate}
 use lib.Seq.{take-all, take-at}
-use lib.Dec.{eqb, ltb, leb}
+use lib.Dec.{ltb, leb}
 use lib.IntN.{ℤ, pos}
-use borrow.Author.Tests.{lt-ltb, le-ltb, ltb-true, ltb-false, eq-eqb, ne-eqb, leb-true, leb-false}
+use borrow.Author.Tests.{lt-ltb, le-ltb, ltb-false, eq-eqb, ne-eqb, leb-true, leb-false}
 use Rattle.plane.specs.declared.rect.Rect64.{Rect64}
 use Rattle.plane.specs.Basics.{if_then_else_}
 use Rattle.plane.specs.Limit.{rect-in-limit}
@@ -20,7 +20,6 @@ use Rattle.entry.specs.declared.answer.Refusal.{Refusal}
 use Rattle.entry.specs.Answers.{outcome, number}
 use Rattle.rectclip.specs.Promises.{lent, ClipsOpen, Leaves}
 use Rattle.rectclip.specs.ClosedPromises.{ClipsClosed}
-use Rattle.text.specs.declared.reading.Request.{Request as Read}
 use Rattle.text.specs.declared.reading.Request.the-variants.{Unreadable, Rectangle, Path}
 use Rattle.text.specs.Reading.{Request, unreadable, rectangle, path}
 use Rattle.text.specs.Asked.{answer, stored, led-by}
@@ -29,7 +28,7 @@ use Rattle.text.specs.Written.{Written}
 use Rattle.program.specs.declared.answers.Start.{Start}
 use Rattle.program.specs.declared.answers.Start.the-variants as begun
 use Rattle.program.specs.Printed.{Gives, lines-of}
-use Rattle.program.specs.Answered.{refusal, first-lines, start, bytes-of, First, called, result-lines, drawn-lines, path-answer, answer-lines}
+use Rattle.program.specs.Answered.{refusal, First, called, result-lines, drawn-lines, path-answer, answer-lines}
 use Rattle.text.proofs.Puts.{written-head}
 use Rattle.program.proofs.Lines.{gives-line}
 

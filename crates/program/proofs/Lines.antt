@@ -2,7 +2,7 @@
 use mathlib.Core.Path.{_≡_, refl, sym, _∙_, ap, subst}
 use mathlib.Core.Bool.{Bool, true, false}
 use mathlib.Core.List.{List, [], _∷_, _++_, append-nil, append-assoc}
-use Prim.Native.Nat.{ℕ, zero, suc, _+_, _-_, _*_, _<_, _≤_, min}
+use Prim.Native.Nat.{ℕ, _+_, _-_, _*_, _<_, _≤_}
 use native.Mathlib.Omega.{arith}
 use native.Mathlib.Numerals.{add-one}
 use lib.ListN.{length, take, drop, getD, length-append, length-drop, take-append-drop, drop-of-length-le}
@@ -10,7 +10,6 @@ use lib.Seq.{length-take-le, take-all, take-append-add, drop-append-add, take-ap
 use lib.Dec.{leb}
 use lib.IntN.{ℤ}
 use borrow.Author.Tests.{leb-true, leb-false}
-use Rattle.plane.specs.Basics.{if_then_else_}
 use Rattle.reference.specs.Entry.{filled}
 use Rattle.text.specs.Written.{Written, coordinates-line}
 use Rattle.program.specs.Printed.{kept, Gives, Added, PathEnd, lines-of}

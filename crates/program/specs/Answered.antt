@@ -1,9 +1,9 @@
 -- What the clip program prints for a line, of document 01's section 'The clip program': W = A = 256, 'at most 128' pairs,
 -- '12 comes before the other checks, more than 128 pairs give 5', 'Line 1 gives only 12 or 6'.
 use mathlib.Core.Path.{_≡_}
-use mathlib.Core.Bool.{Bool, true, false, not}
-use mathlib.Core.List.{List, [], _∷_, _++_}
-use Prim.Native.Nat.{ℕ, _%_, _≤_}
+use mathlib.Core.Bool.{Bool}
+use mathlib.Core.List.{List, [], _∷_}
+use Prim.Native.Nat.{ℕ, _%_}
 use lib.ListN.{length, take, replicate}
 use lib.Dec.{eqb, ltb}
 use lib.IntN.{ℤ, pos}

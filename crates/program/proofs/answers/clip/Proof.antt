@@ -1,6 +1,4 @@
 -- `program::answers::clip` meets its contract. Assumes nothing.
-use mathlib.Core.Path.{sym}
-use lib.IntN.{pos}
 use Rattle.program.proofs.Given.{left-closed, left-open}
 use borrow.Author.Needs.{needs}
 use Rattle.program.proofs.answers.clip.Statement.{statement}

@@ -1,5 +1,4 @@
 -- `program::answers::write_paths` meets its contract. Assumes nothing.
-use mathlib.Core.Path.{_≡_}
 use Prim.Native.Nat.{_-_, _≤_}
 use lib.ListN.{length, drop}
 use mir.Syntax.{w64}
