@@ -1,5 +1,5 @@
 -- What the checks of a call say: each way by which a call is stopped, and what is known of one that is let through. Assumes nothing.
-use mathlib.Core.Path.{_≡_, refl, sym, _∙_}
+use mathlib.Core.Path.{_≡_, refl}
 use mathlib.Core.Bool.{Bool, true, false, not}
 use mathlib.Core.List.{List}
 use Prim.Native.Nat.{ℕ, suc, _+_, _*_, _/_, _%_, _<_, _≤_}
@@ -17,7 +17,7 @@ use Rattle.reference.specs.Entry.{early-refusal, sheet-refusal}
 use Rattle.entry.specs.declared.admission.Admission.{Admission}
 use Rattle.entry.specs.declared.admission.Admission.the-variants.{Admitted, Refused}
 use Rattle.entry.specs.declared.answer.Refusal.{Refusal}
-use Rattle.entry.specs.Answers.{number, Checked, stopped, surveyed, checked, admission}
+use Rattle.entry.specs.Answers.{number, stopped, surveyed, checked, admission}
 use Rattle.entry.proofs.Sheets.{number-not-zero}
 
 pub even-of : (n : ℕ) → (n % 2 ≡ 1 → ⊥) → n % 2 ≡ 0

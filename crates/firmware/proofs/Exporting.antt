@@ -28,9 +28,11 @@ use Rattle.theorems.proofs.FewResults.{few-results}
 use Rattle.theorems.proofs.FewLines.{few-lines}
 use Rattle.entry.specs.declared.answer.Answer.{Answer}
 use Rattle.entry.specs.Answers.{outcome}
-use Rattle.rectclip.specs.Promises.{lent}
 use Rattle.rectclip.proofs.Coordinates.{points-length}
-use Rattle.firmware.specs.Sending.{path-refusal, sent, Sendable, drawing-of, Clipped}
+use Rattle.firmware.specs.Sending.{path-refusal, sent, Sendable, drawing-of}
+use Rattle.rectclip.specs.Promises.{Leaves}
+use Rattle.handheld.specs.Called.{called as handheld}
+use Rattle.firmware.proofs.Clippers.{called, lists, called-leaves}
 use Rattle.firmware.proofs.Bytes.{read-length}
 use Rattle.firmware.proofs.Sending.{coordinates-length, sendable, exported-by, Roomy, sent-answered}
 
@@ -156,17 +158,20 @@ read-fits bytes l e = omega (arith, ap length e, length-append (read-words bytes
 pub part-read : (bytes : List ℕ) (l : List ℤ) → take (length bytes / 4) (filled (read-words bytes) l) ≡ read-words bytes
 part-read bytes l = take-at (read-words bytes) (drop (length (read-words bytes)) l) (length bytes / 4) (read-length bytes)
 
-module _ (closed : Bool) {R : Rect64} (path results : List ℤ) (numbers : List ℕ) {r : Answer} {results′ : List ℤ} {numbers′ : List ℕ} (k : Clipped closed R path results numbers r results′ numbers′) where
+module _ (closed : Bool) (R : Rect64) (path results : List ℤ) (numbers : List ℕ) {r : Answer} {results′ : List ℤ} {numbers′ : List ℕ} (h : Leaves (handheld closed R path results numbers) r results′ numbers′) where
+  k : Leaves (called closed R path (lists results numbers)) r results′ numbers′
+  k = called-leaves closed R path results numbers h
+
   pub may-send : Sendable (outcome r) results′ numbers′
-  may-send = rw (k .answer, k .coordinates, k .lengths) (sendable (lent results numbers (k .store) (k .work)) (early-refusal 256 (if closed then 256 else 0) 8208 R path) (drawing-of closed R path))
+  may-send = rw (k .answer, k .coords, k .counts) (sendable (lists results numbers) (early-refusal 256 (if closed then 256 else 0) 8208 R path) (drawing-of closed R path))
 
   pub all-exported : (bytes coordinates lengths counts : List ℕ) {v : Bytes} → path-refusal bytes ≡ 0 → path ≡ read-words bytes → length results ≡ 512 → length numbers ≡ 257
       → v ≡ sent (outcome r) results′ numbers′ coordinates lengths counts → v ≡ exported closed R bytes coordinates lengths counts
   unfolding exported
   all-exported bytes coordinates lengths counts z p a b e =
       let short : length path / 2 ≤ 128 = rw p (few bytes z) in
-      let l : Lent = lent results numbers (k .store) (k .work) in
-      e ∙ (λ i. sent (k .answer i) (k .coordinates i) (k .lengths i) coordinates lengths counts)
+      let l : Lent = lists results numbers in
+      e ∙ (λ i. sent (k .answer i) (k .coords i) (k .counts i) coordinates lengths counts)
       ∙ sent-answered l coordinates lengths counts (early-refusal 256 (if closed then 256 else 0) 8208 R path) (drawing-of closed R path) (roomy R path short closed l a b)
       ∙ ap (λ (read : List ℤ). exported-by (early-refusal 256 (if closed then 256 else 0) 8208 R read) (drawing-of closed R read) coordinates lengths counts) p
       ∙ ap (λ (n : ℕ). exported-by n (drawing-of closed R (read-words bytes)) coordinates lengths counts) (early-same bytes z closed R)

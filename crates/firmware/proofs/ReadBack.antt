@@ -15,12 +15,11 @@ use Rattle.plane.specs.declared.point.Point64.{Point64}
 use Rattle.plane.specs.declared.rect.Rect64.{Rect64}
 use Rattle.plane.specs.Basics.{if_then_else_, Try, refuse, ok, _>>=_}
 use Rattle.plane.specs.Points.{points-of, coordinates-of}
-use Rattle.plane.specs.Limit.{rect-in-limit}
 use Rattle.reference.specs.Walk.{no-room}
 use Rattle.reference.specs.Lines.{execute-lines}
 use Rattle.reference.specs.Entry.{Drawing, joined, early-refusal}
-use Rattle.reference.specs.Exported.{word, signed, bits, words, read-words}
-use Rattle.theorems.specs.Demand.{AtMostOneOutside, Sourced}
+use Rattle.reference.specs.Exported.{signed, bits, words, read-words}
+use Rattle.theorems.specs.Demand.{AtMostOneOutside}
 use Rattle.theorems.proofs.Demand.{LimitedRect, rect-limited}
 use Rattle.theorems.proofs.ClosedArea.{call-bounded, demand-3}
 use Rattle.firmware.specs.Sending.{drawing-of}

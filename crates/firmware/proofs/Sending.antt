@@ -1,8 +1,8 @@
 -- What is sent of an answer: the four ways of a result, and that what a clipper answers can be sent. Assumes nothing.
-use mathlib.Core.Path.{_≡_, refl, sym, _∙_, ap, subst}
+use mathlib.Core.Path.{_≡_, refl, sym, subst}
 use mathlib.Core.Bool.{Bool, true, false, _||_}
-use mathlib.Core.List.{List, [], _∷_, _++_, map}
-use Prim.Native.Nat.{ℕ, zero, suc, _+_, _*_, _/_, _%_, _<_, _≤_}
+use mathlib.Core.List.{List, [], _∷_, map}
+use Prim.Native.Nat.{ℕ, _*_, _%_, _<_, _≤_}
 use native.Mathlib.Omega.{arith}
 use lib.ListN.{length, take, drop, length-append, length-map}
 use lib.Seq.{take-at, length-take-le}
@@ -12,7 +12,7 @@ use borrow.Author.Tests.{lt-ltb, le-ltb, eqb-true, ne-eqb, eq-eqb}
 use Rattle.plane.specs.declared.point.Point64.{Point64}
 use Rattle.plane.specs.Basics.{if_then_else_, Try, refuse, ok}
 use Rattle.plane.specs.Points.{coordinates-of}
-use Rattle.reference.specs.Entry.{Drawing, Outcome, refused, drawn, Lent, joined, filled, delivered, answered}
+use Rattle.reference.specs.Entry.{Drawing, drawn, Lent, joined, filled, delivered, answered}
 use Rattle.reference.specs.Exported.{Bytes, bits, words}
 use Rattle.firmware.specs.Sending.{path-refusal, sent, Sendable}
 use Rattle.firmware.proofs.Bytes.{words-length}

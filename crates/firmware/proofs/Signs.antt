@@ -1,7 +1,7 @@
 -- A number of 32 bits read as signed, and a signed number as 32 bits, as the code works them out. Assumes nothing.
 use mathlib.Core.Path.{_≡_, refl, sym, _∙_, ap, subst}
 use mathlib.Core.Bool.{true, false}
-use Prim.Native.Nat.{ℕ, suc, _+_, _-_, _<_, _≤_}
+use Prim.Native.Nat.{ℕ, _-_, _<_, _≤_}
 use native.Mathlib.Omega.{arith}
 use lib.IntN.{ℤ, pos, negsuc, natAbs, _-ℤ_}
 use lib.Signed.{ltZ}

@@ -1,8 +1,7 @@
 -- Words of the functions that clip and send a result.
-use mathlib.Core.Path.{_≡_}
-use mathlib.Core.Bool.{Bool, true, false, not, _||_}
+use mathlib.Core.Bool.{Bool, not, _||_}
 use mathlib.Core.List.{List, [], _∷_, map}
-use Prim.Native.Nat.{ℕ, _+_, _*_, _%_, _≤_}
+use Prim.Native.Nat.{ℕ, _*_, _%_, _≤_}
 use lib.ListN.{length, take}
 use lib.Dec.{eqb, ltb}
 use lib.IntN.{ℤ}
@@ -12,11 +11,8 @@ use Rattle.plane.specs.Points.{points-of}
 use Rattle.reference.specs.Walk.{no-room}
 use Rattle.reference.specs.Lines.{execute-lines}
 use Rattle.reference.specs.Clip.{execute}
-use Rattle.reference.specs.Entry.{Drawing, Outcome, refused, drawn, Lent, After, answered, early-refusal, filled}
+use Rattle.reference.specs.Entry.{Drawing, Outcome, refused, drawn, filled}
 use Rattle.reference.specs.Exported.{Bytes, bits, words}
-use Rattle.entry.specs.declared.answer.Answer.{Answer}
-use Rattle.entry.specs.Answers.{outcome}
-use Rattle.rectclip.specs.Promises.{lent}
 
 -- what a path's bytes alone are refused for
 abbrev pub path-refusal : List ℕ → ℕ
@@ -34,17 +30,6 @@ abbrev pub Sendable : Outcome → List ℤ → List ℕ → Type 0
 Sendable (refused n) results numbers = 0 ≤ n
 Sendable (drawn paths points turns) results numbers = (2 * points ≤ length results) × (paths ≤ length numbers)
 
--- a clipper's drawing with W = A = 256, and what is refused before it; lines have A = 0
+-- a clipper's drawing with W = A = 256; lines have A = 0
 abbrev pub drawing-of : Bool → Rect64 → List ℤ → Try Drawing
 drawing-of closed rect path = if closed then execute (no-room 256) 256 rect (points-of path) else (execute-lines (no-room 256) rect (points-of path) >>= λ paths. ok (paths, 0))
-
-abbrev pub called : Bool → Rect64 → List ℤ → Lent → After
-called closed rect path lists = answered lists (early-refusal 256 (if closed then 256 else 0) 8208 rect path) (drawing-of closed rect path)
-
--- a clipper's answer with the two lists that it filled, whatever store and work it was lent
-pub record Clipped (closed : Bool) (rect : Rect64) (path results : List ℤ) (numbers : List ℕ) (r : Answer) (results′ : List ℤ) (numbers′ : List ℕ) : Type 0 where
-  pub store : List ℤ
-  pub work : List ℕ
-  pub answer : outcome r ≡ called closed rect path (lent results numbers store work) .answer
-  pub coordinates : results′ ≡ called closed rect path (lent results numbers store work) .lists .coordinates
-  pub lengths : numbers′ ≡ called closed rect path (lent results numbers store work) .lists .lengths

@@ -5,12 +5,11 @@ ghost use Rattle.plane.specs.Rectangle.{rect};
 ghost use Rattle.reference.specs.Entry.{drawn};
 ghost use Rattle.reference.specs.Exported.{exported};
 ghost use Rattle.entry.specs.Answers.{outcome};
-ghost use Rattle.firmware.specs.Sending.{path-refusal, sent, Sendable, Clipped};
+ghost use Rattle.firmware.specs.Sending.{path-refusal, sent, Sendable};
 use entry::answer::Answer;
 use entry::answer::Counts;
+use handheld::clip;
 use plane::rect::Rect64;
-use rectclip::lines::RectClipLines64;
-use rectclip::rect_clip::RectClip64;
 use words::put_coordinates;
 use words::put_numbers;
 use words::read_words;
@@ -76,26 +75,6 @@ fn send(
         Answer::Drawn(c) => send_drawing(c, results, numbers, coordinates, lengths, counts),
         Answer::Refused(r) => r.number(),
     }
-}
-
-// The clipper of the path's kind, with room for 256 points and, for a closed one, 256 turns allowed.
-fn clip(
-    closed: bool,
-    rect: Rect64,
-    path: &[i64],
-    results: &mut [i64],
-    numbers: &mut [u32],
-) -> Answer
-    ensures { λ r. ⌜ Clipped closed rect (now (path .entry)) (now (results .entry)) (now (numbers .entry)) r (now (results .exit)) (now (numbers .exit)) ⌝ }
-{
-    let mut store = [0i64; 512];
-    let mut work = [0u32; 8208];
-    if closed {
-        let clipper = RectClip64::new(rect);
-        return clipper.execute(path, 256, &mut store, &mut work, results, numbers);
-    }
-    let clipper = RectClipLines64::new(rect);
-    clipper.execute(path, &mut store, &mut work, results, numbers)
 }
 
 // One path, closed or open: 0, or the refusal's number.

@@ -12,14 +12,14 @@ use borrow.Author.Tests.{lt-ltb, le-ltb, ltb-false, eq-eqb, ne-eqb, leb-true, le
 use Rattle.plane.specs.declared.rect.Rect64.{Rect64}
 use Rattle.plane.specs.Basics.{if_then_else_}
 use Rattle.plane.specs.Limit.{rect-in-limit}
-use Rattle.reference.specs.Entry.{Outcome, refused, drawn, Lent, After, clip-open, clip-closed}
+use Rattle.reference.specs.Entry.{Outcome, refused, drawn}
 use Rattle.entry.specs.declared.answer.Answer.{Answer}
 use Rattle.entry.specs.declared.answer.Answer.the-variants.{Drawn, Refused}
 use Rattle.entry.specs.declared.answer.Counts.{Counts}
 use Rattle.entry.specs.declared.answer.Refusal.{Refusal}
 use Rattle.entry.specs.Answers.{outcome, number}
-use Rattle.rectclip.specs.Promises.{lent, ClipsOpen, Leaves}
-use Rattle.rectclip.specs.ClosedPromises.{ClipsClosed}
+use Rattle.rectclip.specs.Promises.{Leaves}
+use Rattle.handheld.specs.Called.{called}
 use Rattle.text.specs.declared.reading.Request.the-variants.{Unreadable, Rectangle, Path}
 use Rattle.text.specs.Reading.{Request, unreadable, rectangle, path}
 use Rattle.text.specs.Asked.{answer, stored, led-by}
@@ -28,7 +28,7 @@ use Rattle.text.specs.Written.{Written}
 use Rattle.program.specs.declared.answers.Start.{Start}
 use Rattle.program.specs.declared.answers.Start.the-variants as begun
 use Rattle.program.specs.Printed.{Gives, lines-of}
-use Rattle.program.specs.Answered.{refusal, First, called, result-lines, drawn-lines, path-answer, answer-lines}
+use Rattle.program.specs.Answered.{refusal, First, result-lines, drawn-lines, path-answer, answer-lines}
 use Rattle.text.proofs.Puts.{written-head}
 use Rattle.program.proofs.Lines.{gives-line}
 
@@ -106,23 +106,6 @@ take-least n l {k} e = go (leb n (length l)) refl
     go : (b : Bool) → leb n (length l) ≡ b → take k l ≡ take n l
     go true t = let m : k ≡ n = omega (arith, e, leb-true n (length l) t) in ap (λ (j : ℕ). take j l) m
     go false t = take-all k l (omega (arith, e, leb-false n (length l) t)) ∙ sym (take-all n l (omega (arith, leb-false n (length l) t)))
-
--- a call of the clippers
-abbrev lists : List ℤ → List ℕ → Lent
-lists C N = lent C N (replicate 512 (pos 0)) (replicate 8208 0)
-
-module _ (closed : Bool) {R R′ : Rect64} (zs C : List ℤ) (N : List ℕ) {r : Answer} (after : Lent) (same : R ≡ R′) where
-  leaves : {a : After} → outcome r ≡ a .answer → after .coordinates ≡ a .lists .coordinates → after .lengths ≡ a .lists .lengths → a ≡ called closed R′ zs C N
-      → Leaves (called closed R′ zs C N) r (after .coordinates) (after .lengths)
-  leaves p q s e = record { answer = p ∙ ap (λ (x : After). x .answer) e; coords = q ∙ ap (λ (x : After). x .lists .coordinates) e; counts = s ∙ ap (λ (x : After). x .lists .lengths) e }
-
-  pub left-closed : closed ≡ true → ClipsClosed 256 R zs (lists C N) r after → Leaves (called closed R′ zs C N) r (after .coordinates) (after .lengths)
-  left-closed e k =
-      leaves (k .answer) (k .coordinates) (k .lengths) (ap (λ (x : Rect64). clip-closed 256 x zs (lists C N)) same ∙ sym (yes (clip-closed 256 R′ zs (lists C N)) (clip-open R′ zs (lists C N)) e))
-
-  pub left-open : closed ≡ false → ClipsOpen R zs (lists C N) r after → Leaves (called closed R′ zs C N) r (after .coordinates) (after .lengths)
-  left-open e k =
-      leaves (k .answer) (k .coordinates) (k .lengths) (ap (λ (x : Rect64). clip-open x zs (lists C N)) same ∙ sym (no (clip-closed 256 R′ zs (lists C N)) (clip-open R′ zs (lists C N)) e))
 
 -- what is written of its answer
 module _ (closed : Bool) (line : ℤ) (R : Rect64) (zs : List ℤ) {out : List ℕ} {n : ℕ} {after : List ℕ} {r : Answer} {C : List ℤ} {N : List ℕ} (k : Leaves (called closed R zs (replicate 512 (pos 0)) (replicate 257 0)) r C N) where

@@ -10,10 +10,10 @@ use lib.IntN.{ℤ, pos}
 use Rattle.plane.specs.Basics.{if_then_else_}
 use Rattle.plane.specs.Limit.{rect-in-limit}
 use Rattle.plane.specs.declared.rect.Rect64.{Rect64}
-use Rattle.reference.specs.Entry.{Outcome, refused, drawn, After, clip-closed, clip-open}
-use Rattle.rectclip.specs.Promises.{lent}
+use Rattle.reference.specs.Entry.{Outcome, refused, drawn}
 use Rattle.text.specs.Reading.{Request, unreadable, rectangle, path}
 use Rattle.text.specs.Printing.{line-of, rectangle-line}
+use Rattle.handheld.specs.Called.{called}
 use Rattle.program.specs.declared.answers.Start.{Start}
 use Rattle.program.specs.declared.answers.Start.the-variants.{Refused, Ready}
 use Rattle.program.specs.Printed.{Gives, lines-of}
@@ -43,12 +43,6 @@ pub record First (asked : Request) (out : List ℕ) (r : Start) (after : List �
   pub gives : Gives (first-lines asked) out (bytes-of r) after
 
 -- ---- the other lines
--- a call with W = A = 256 that fills these lists
-abbrev pub called : Bool → Rect64 → List ℤ → List ℤ → List ℕ → After
-called closed rect zs coordinates lengths =
-    let lists = lent coordinates lengths (replicate 512 (pos 0)) (replicate 8208 0) in
-    if closed then clip-closed 256 rect zs lists else clip-open rect zs lists
-
 -- a refusal, or the paths: as many lengths as paths, and the coordinates
 abbrev pub result-lines : Bool → ℤ → Outcome → List ℕ → List ℤ → List (List ℕ)
 result-lines closed line (refused n) lengths coordinates = refusal line n

@@ -6,18 +6,16 @@ ghost use Prim.Native.Nat.{_≤_, min};
 ghost use lib.IntN.{pos};
 ghost use lib.ListN.{length, take};
 ghost use Rattle.program.specs.Printed.{Added, Gives, PathEnd, lines-of};
-ghost use Rattle.program.specs.Answered.{First, called, drawn-lines, path-answer, answer-lines};
+ghost use Rattle.program.specs.Answered.{First, drawn-lines, path-answer, answer-lines};
 ghost use Rattle.text.specs.Asked.{request};
 ghost use Rattle.text.specs.Reading.{unreadable, rectangle};
 ghost use Rattle.text.specs.Written.{Written, coordinates-line};
 ghost use Rattle.text.specs.Printing.{line-of};
 ghost use Rattle.entry.specs.Answers.{number};
-ghost use Rattle.rectclip.specs.Promises.{Leaves};
 use entry::answer::Answer;
 use entry::answer::Refusal;
+use handheld::clip;
 use plane::rect::Rect64;
-use rectclip::lines::RectClipLines64;
-use rectclip::rect_clip::RectClip64;
 use text::reading::Request;
 use text::reading::read_line;
 use text::writing::write_path;
@@ -145,38 +143,13 @@ fn write_drawn(
     write_counted(closed, line, paths as usize, coordinates, lengths, out)
 }
 
-// W = A = 256.
-fn clip(
-    rect: Rect64,
-    closed: bool,
-    path: &[i64],
-    coordinates: &mut [i64; 512],
-    lengths: &mut [u32; 257],
-) -> Answer
-    ensures { λ r. ⌜ Leaves (called closed rect (now (path .entry)) (now (coordinates .entry)) (now (lengths .entry))) r (now (coordinates .exit)) (now (lengths .exit)) ⌝ }
-{
-    let mut store = [0i64; 512];
-    let mut work = [0u32; 8208];
-    if closed {
-        return RectClip64::new(rect).execute(
-            path,
-            256,
-            &mut store,
-            &mut work,
-            coordinates,
-            lengths,
-        );
-    }
-    RectClipLines64::new(rect).execute(path, &mut store, &mut work, coordinates, lengths)
-}
-
 // A path of at most 128 points. A result has at most W points and A + 1 paths, so the lists have room for every one.
 fn answer_path(rect: Rect64, closed: bool, line: i64, path: &[i64], out: &mut [u8]) -> usize
     ensures { λ r. ⌜ Gives (drawn-lines closed line rect (now (path .entry))) (now (out .entry)) r (now (out .exit)) ⌝ }
 {
     let mut coordinates = [0i64; 512];
     let mut lengths = [0u32; 257];
-    let answer = clip(rect, closed, path, &mut coordinates, &mut lengths);
+    let answer = clip(closed, rect, path, &mut coordinates, &mut lengths);
     match answer {
         Answer::Refused(why) => write_why(line, why, out),
         Answer::Drawn(counts) => write_drawn(

@@ -1,5 +1,5 @@
 -- `admit_sheet` meets its contract: the first check that fails answers. Assumes nothing.
-use mathlib.Core.Path.{refl, sym, _∙_}
+use mathlib.Core.Path.{sym, _∙_}
 use borrow.Author.Tests.{not-true, not-false}
 use native.Mathlib.Omega.{arith}
 use Rattle.entry.specs.declared.answer.Refusal.the-variants.{PathTooLong, RectangleOutside, PathOutside}

@@ -1,5 +1,5 @@
 -- `filled` meets its promise: the front of the list, where it holds so many points.
-use mathlib.Core.Path.{refl, sym, _∙_}
+use mathlib.Core.Path.{refl, sym}
 use Prim.Native.Nat.{_*_}
 use native.Mathlib.Omega.{arith}
 use lib.Seq.{length-take-le}

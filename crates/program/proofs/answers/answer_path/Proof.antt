@@ -7,6 +7,12 @@ use borrow.Author.Needs.{needs}
 use Rattle.program.proofs.answers.answer_path.Statement.{statement}
 use Rattle.program.proofs.answers.answer_path.Tie as tie
 
+slice-aggregate-clip : tie.Need-slice-aggregate-clip
+slice-aggregate-clip c = search needs
+
+slice-aggregate-clip-2 : tie.Need-slice-aggregate-clip-2
+slice-aggregate-clip-2 c = search needs
+
 clip-requires : tie.Need-clip-requires
 clip-requires c κs = search needs
 
@@ -50,6 +56,8 @@ pub answer-path-spec : {M : Type 1} → statement M
 answer-path-spec =
     tie.close
     (tie.spec
+    slice-aggregate-clip
+    slice-aggregate-clip-2
     clip-requires
     enum-known-answer
     write-why-requires

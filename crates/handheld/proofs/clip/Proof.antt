@@ -1,8 +1,8 @@
--- `program::answers::clip` meets its contract. Assumes nothing.
-use Rattle.program.proofs.Given.{left-closed, left-open}
+-- `handheld::clip` meets its contract. Assumes nothing.
+use Rattle.handheld.proofs.Calls.{left-closed, left-open}
 use borrow.Author.Needs.{needs}
-use Rattle.program.proofs.answers.clip.Statement.{statement}
-use Rattle.program.proofs.answers.clip.Tie as tie
+use Rattle.handheld.proofs.clip.Statement.{statement}
+use Rattle.handheld.proofs.clip.Tie as tie
 
 new-requires : tie.Need-new-requires
 new-requires c κs = search needs
@@ -15,6 +15,12 @@ slice-aggregate-execute-2 c = search needs
 
 execute-requires : tie.Need-execute-requires
 execute-requires c κs = search needs
+
+same-length : tie.Need-same-length
+same-length c = search needs
+
+same-length-2 : tie.Need-same-length-2
+same-length-2 c = search needs
 
 returns : tie.Need-returns
 returns c =
@@ -36,6 +42,12 @@ slice-aggregate-execute-4 c = search needs
 execute-requires-2 : tie.Need-execute-requires-2
 execute-requires-2 c κs = search needs
 
+same-length-3 : tie.Need-same-length-3
+same-length-3 c = search needs
+
+same-length-4 : tie.Need-same-length-4
+same-length-4 c = search needs
+
 returns-2 : tie.Need-returns-2
 returns-2 c =
     let s : tie.Start = search in
@@ -52,9 +64,13 @@ clip-spec =
     slice-aggregate-execute
     slice-aggregate-execute-2
     execute-requires
+    same-length
+    same-length-2
     returns
     new-requires-2
     slice-aggregate-execute-3
     slice-aggregate-execute-4
     execute-requires-2
+    same-length-3
+    same-length-4
     returns-2)

@@ -1,0 +1,2 @@
+-- The handheld's calls.
+pub mod Called
