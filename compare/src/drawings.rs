@@ -280,7 +280,7 @@ fn square_spiral(random: &mut Random, most: usize) -> (Rect, Vec<i64>) {
 }
 
 /// How large stars and spirals are drawn; the larger takes them close to the limit.
-const SCALES: [i64; 3] = [1, 1, 13_000];
+const SCALES: [i64; 3] = [1, 1, 12_000];
 
 /// A rectangle of middling size.
 fn middling_rect(random: &mut Random) -> Rect {
