@@ -2,7 +2,7 @@
 -- Made by tools/tables.py from rows of compare's `drawings`. Assumes nothing.
 use mathlib.Core.Path.{_≡_, refl}
 use mathlib.Core.List.{List, [], _∷_, map}
-use lib.IntN.{ℤ, pos}
+use lib.IntN.{pos}
 use Rattle.drawings.specs.Cases.{Case, C, U, L, R, minus, returned, refusal, shown}
 use Rattle.plane.specs.Intersection.{at-end, get-segment-intersection, edge-intersection, side-intersection, get-intersection}
 use Rattle.plane.specs.Locations.{start-locs-are-clockwise}

@@ -1,8 +1,8 @@
 -- The area of a path, and what dropping a point does to it: `ring` inside an induction.
-use mathlib.Core.Path.{_≡_, refl, sym, _∙_, ap, subst}
+use mathlib.Core.Path.{_≡_, _∙_, ap}
 use mathlib.Core.List.{List, [], _∷_}
-use lib.IntN.{ℤ, pos, negsuc, negℤ, _+ℤ_, _-ℤ_, _*ℤ_}
-use Rattle.integers.specs.Ring.{Ex, con, v0, v1, v2, v3, v4, v5, v6, _⊕_, _⊖_, _⊗_, ev, ring}
+use lib.IntN.{ℤ, pos, _+ℤ_, _-ℤ_, _*ℤ_}
+use Rattle.integers.specs.Ring.{con, v0, v1, v2, v3, v4, v5, v6, _⊕_, _⊖_, _⊗_, ring}
 
 abbrev cross : ℤ → ℤ → ℤ → ℤ → ℤ
 cross ax ay bx by = ax *ℤ by -ℤ bx *ℤ ay

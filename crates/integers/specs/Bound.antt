@@ -1,17 +1,16 @@
 -- Bounds that are computed: an expression over numbers with known bounds fits an `i64`, and what the machine reads of it is its value.
 use mathlib.Core.Path.{_≡_, refl, sym, _∙_, ap, subst}
-use mathlib.Core.Bool.{Bool, true, false, _&&_}
-use mathlib.Core.Logic.{_⊎_, inl, inr, ⊎-elim}
+use mathlib.Core.Bool.{Bool, _&&_}
 use mathlib.Core.List.{List, [], _∷_}
-use Prim.Native.Nat.{ℕ, zero, suc, _+_, _*_, _^_, _≤_, _<_}
-use native.Mathlib.Nat.{mul-le-mul, le-trans, le-refl}
+use Prim.Native.Nat.{ℕ, zero, suc, _+_, _*_, _^_, _≤_}
+use native.Mathlib.Nat.{le-trans, le-refl}
 use native.Mathlib.Omega.{arith}
 use lib.Dec.{T, eqb, ltb, ltb→lt}
 use lib.Ieee.Fits.{and-l, and-r}
 use lib.ListN.{getD}
-use lib.IntN.{ℤ, pos, negsuc, negℤ, natAbs, _+ℤ_, _-ℤ_, _*ℤ_}
-use lib.Signed.{mag, ltZ, leZ}
-use mir.Syntax.{w32, w64}
+use lib.IntN.{ℤ, pos, negℤ, natAbs, _+ℤ_, _-ℤ_, _*ℤ_}
+use lib.Signed.{ltZ, leZ}
+use mir.Syntax.{w64}
 use mir.Val.{SFits, toZ, ofZ}
 use mir.Facts.{toZ-ofZ}
 use Rattle.integers.specs.Order.{abs-neg, abs-add, abs-sub, abs-mul-le, sfits-abs}

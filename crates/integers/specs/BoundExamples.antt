@@ -1,7 +1,7 @@
 -- Worked uses of `fits`, `mo-is` and `lt-is`: a product of differences fits an `i64`, what the machine reads of it, and a test of two such.
 use mathlib.Core.Path.{_≡_}
 use mathlib.Core.List.{List, [], _∷_}
-use Prim.Native.Nat.{ℕ, _≤_}
+use Prim.Native.Nat.{_≤_}
 use lib.IntN.{ℤ, natAbs, _-ℤ_, _*ℤ_}
 use lib.Signed.{ltZ}
 use mir.Syntax.{w64}

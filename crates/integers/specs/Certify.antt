@@ -1,18 +1,17 @@
 -- Orders over ℤ that are not linear, by a certificate: the goal's gap is a sum of products of the hypotheses' gaps, of squares
 -- and of numbers, and a number of ℕ is left over. `certify ρ hs g c tt ps` checks that by `Ring`'s polynomials.
 -- For what is linear `omega zint` of `Order` needs no certificate.
-use mathlib.Core.Path.{_≡_, refl, sym, _∙_, ap, subst}
-use mathlib.Core.Bool.{Bool, true, false, _&&_}
+use mathlib.Core.Path.{_≡_, refl, _∙_, ap, subst}
+use mathlib.Core.Bool.{Bool, true, _&&_}
 use mathlib.Core.List.{List, [], _∷_}
 use Prim.Native.Nat.{ℕ, zero, suc, _+_, _*_, _≤_, _<_}
 use native.Mathlib.Omega.{arith}
-use lib.Dec.{T, leb·zero}
+use lib.Dec.{T}
 use lib.Ieee.Fits.{and-l, and-r}
-use lib.IntN.{ℤ, pos, negsuc, negℤ, _+ℤ_, _-ℤ_, _*ℤ_, +ℤ-idr, +ℤ-idl, zero-*ℤ, *ℤ-comm}
-use lib.Signed.{_≤ℤ_, _<ℤ_, leZ, ≤ℤ-refl, nonNeg}
-use Rattle.integers.specs.Order.{zint, pp, nn, le→, lt→, eq→, add-pn, sub-pn, neg-pn, mul-pn}
-use Rattle.integers.specs.Laws.{one-*ℤ, *ℤ-assoc}
-use Rattle.integers.specs.Ring.{Ex, var, con, _⊕_, _⊖_, _⊗_, ⊝, ev, Term, tm, norm, evP, evM, norm-ok, isZ, isZ-ok}
+use lib.IntN.{ℤ, pos, negsuc, _+ℤ_, _-ℤ_, _*ℤ_, zero-*ℤ}
+use lib.Signed.{_≤ℤ_, _<ℤ_, ≤ℤ-refl, nonNeg}
+use Rattle.integers.specs.Order.{zint, pp, nn, le→, eq→, add-pn, sub-pn, mul-pn}
+use Rattle.integers.specs.Ring.{Ex, con, _⊕_, _⊖_, _⊗_, ev, Term, tm, norm, evP, evM, norm-ok, isZ, isZ-ok}
 
 infix 70 _≼_ _≺_ _≈_
 pub data Rel : Type 0 where

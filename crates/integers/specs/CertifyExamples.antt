@@ -1,10 +1,10 @@
 -- Worked certificates.
 use mathlib.Core.Path.{_≡_}
-use mathlib.Core.List.{List, [], _∷_}
-use lib.IntN.{ℤ, pos, negsuc, _+ℤ_, _-ℤ_, _*ℤ_}
+use mathlib.Core.List.{[], _∷_}
+use lib.IntN.{ℤ, pos, _+ℤ_, _-ℤ_, _*ℤ_}
 use lib.Signed.{_≤ℤ_, _<ℤ_}
-use Rattle.integers.specs.Ring.{Ex, con, v0, v1, v2, v3, v4, v5, _⊕_, _⊖_, _⊗_, ⊝}
-use Rattle.integers.specs.Certify.{_≼_, _≺_, _≈_, hyp, num, sqr, times, _⊞_, _⊠_, certify-le, certify-lt, certify-eq, certify-no, certify-le′}
+use Rattle.integers.specs.Ring.{Ex, con, v0, v1, v2, v3, _⊕_, _⊖_, _⊗_, ⊝}
+use Rattle.integers.specs.Certify.{_≼_, _≺_, _≈_, hyp, sqr, times, _⊞_, _⊠_, certify-le, certify-lt, certify-eq, certify-no, certify-le′}
 
 abbrev O : Ex
 O = con (pos 0)

@@ -1,12 +1,12 @@
 -- A sum of many parts in one fact for `omega`: `lin ρ e` says of ⟦ e ⟧ ρ what `add-pn`, `sub-pn` .. say of one operation.
 -- A product is multiplied out: omega takes each product of two parts for an unknown.
-use mathlib.Core.Path.{_≡_, refl, sym, _∙_, ap, subst}
+use mathlib.Core.Path.{_≡_, ap}
 use mathlib.Core.Bool.{Bool, true, false}
-use mathlib.Core.List.{List, [], _∷_}
-use Prim.Native.Nat.{ℕ, zero, suc, _+_, _*_, _≤_, _<_}
+use mathlib.Core.List.{List}
+use Prim.Native.Nat.{ℕ, suc, _+_, _*_}
 use native.Mathlib.Omega.{arith}
 use lib.ListN.{getD}
-use lib.IntN.{ℤ, pos, negsuc, negℤ, _+ℤ_, _-ℤ_, _*ℤ_}
+use lib.IntN.{ℤ, pos, negsuc, _*ℤ_}
 use Rattle.integers.specs.Order.{pp, nn, Is, add-pn, sub-pn, neg-pn}
 use Rattle.integers.specs.Ring.{Ex, var, con, _⊕_, _⊖_, _⊗_, ⊝, ev}
 

@@ -1,15 +1,14 @@
 -- Worked uses of `omega (zint, ..)`, `lin` and `omega ztest`: orders, sums, ranges and tests of the code.
-use mathlib.Core.Path.{_≡_, refl, sym, _∙_, ap, subst}
-use Prim.Native.Nat.{ℕ, zero, suc, _+_, _*_, _^_, _≤_, _<_}
-use native.Mathlib.Omega.{arith}
-use lib.IntN.{ℤ, pos, negsuc, negℤ, natAbs, _+ℤ_, _-ℤ_, _*ℤ_}
+use mathlib.Core.Path.{_≡_}
+use Prim.Native.Nat.{_+_, _*_, _≤_, _<_}
+use lib.IntN.{ℤ, pos, negsuc, natAbs, _+ℤ_, _-ℤ_, _*ℤ_}
 use lib.Signed.{_≤ℤ_, _<ℤ_}
-use mathlib.Core.List.{List, [], _∷_}
+use mathlib.Core.List.{[], _∷_}
 use mathlib.Core.Logic.{⊎-elim}
 use mir.Syntax.{w64}
 use mir.Val.{SFits}
-use Rattle.integers.specs.Order.{zint, eq→, add-pn, sub-pn, neg-pn, mul-pn, abs-pn, parts, abs-sub}
-use Rattle.integers.specs.Ring.{con, v0, v1, v2, _⊕_, _⊖_, _⊗_}
+use Rattle.integers.specs.Order.{zint, add-pn, sub-pn, mul-pn, abs-pn, parts, abs-sub}
+use Rattle.integers.specs.Ring.{con, v0, v1, v2, _⊕_, _⊖_}
 use Rattle.integers.specs.Linear.{lin}
 use mathlib.Core.Bool.{true, false}
 use lib.Signed.{ltZ, leZ}

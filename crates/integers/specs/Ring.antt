@@ -4,12 +4,12 @@
 use mathlib.Core.Path.{_≡_, refl, sym, _∙_, ap, subst}
 use mathlib.Core.Bool.{Bool, true, false, _&&_}
 use mathlib.Core.List.{List, [], _∷_}
-use Prim.Native.Nat.{ℕ, zero, suc, compare, Ordering, Ordering·lt, Ordering·eq, Ordering·gt}
-use lib.Dec.{T, leb, eqb, eqb→eq}
+use Prim.Native.Nat.{ℕ, compare, Ordering, Ordering·lt, Ordering·eq, Ordering·gt}
+use lib.Dec.{T, eqb, eqb→eq}
 use lib.Ieee.Fits.{and-l, and-r}
 use lib.ListN.{getD}
-use lib.IntN.{ℤ, pos, negsuc, negℤ, _+ℤ_, _-ℤ_, _*ℤ_, +ℤ-idl, +ℤ-idr, +ℤ-assoc, +ℤ-comm, zero-*ℤ, *ℤ-comm, negℤ-+ℤ}
-use Rattle.integers.specs.Laws.{+ℤ-swap-l, +ℤ-mid, *ℤ-distr-r, *ℤ-distr-l, *ℤ-assoc, *ℤ-mid, *ℤ-swap-l, neg-*ℤ, *ℤ-neg, one-*ℤ, -ℤ-zero}
+use lib.IntN.{ℤ, pos, negsuc, negℤ, _+ℤ_, _-ℤ_, _*ℤ_, +ℤ-idl, +ℤ-idr, +ℤ-assoc, zero-*ℤ, *ℤ-comm, negℤ-+ℤ}
+use Rattle.integers.specs.Laws.{+ℤ-swap-l, *ℤ-distr-r, *ℤ-distr-l, *ℤ-assoc, *ℤ-mid, *ℤ-swap-l, neg-*ℤ, one-*ℤ, -ℤ-zero}
 
 infixl 80 _⊕_ _⊖_
 infixl 85 _⊗_

@@ -1,8 +1,8 @@
 -- Worked identities, and what they cost.
-use mathlib.Core.Path.{_≡_, refl, sym, _∙_, ap, subst}
-use mathlib.Core.List.{List, [], _∷_}
-use lib.IntN.{ℤ, pos, negsuc, negℤ, _+ℤ_, _-ℤ_, _*ℤ_}
-use Rattle.integers.specs.Ring.{Ex, var, con, _⊕_, _⊖_, _⊗_, ⊝, ev, ring, ring6, _≗_}
+use mathlib.Core.Path.{_≡_}
+use mathlib.Core.List.{[], _∷_}
+use lib.IntN.{ℤ, _+ℤ_, _-ℤ_, _*ℤ_}
+use Rattle.integers.specs.Ring.{Ex, var, _⊕_, _⊖_, _⊗_, ev, ring, ring6, _≗_}
 
 abbrev cross : ℤ → ℤ → ℤ → ℤ → ℤ
 cross ax ay bx by = ax *ℤ by -ℤ bx *ℤ ay

@@ -1,13 +1,13 @@
 -- Products and orders: signs, monotony, cancellation.
-use mathlib.Core.Path.{_≡_, refl, sym, _∙_, ap, subst}
-use mathlib.Core.List.{List, [], _∷_}
+use mathlib.Core.Path.{_≡_}
+use mathlib.Core.List.{[], _∷_}
 use mathlib.Core.Logic.{_⊎_, inl, inr, ⊎-elim}
-use lib.IntN.{ℤ, pos, negsuc, negℤ, _+ℤ_, _-ℤ_, _*ℤ_}
+use lib.IntN.{ℤ, pos, _*ℤ_}
 use lib.Signed.{_≤ℤ_, _<ℤ_, clashℤ}
 use Rattle.integers.specs.Order.{zint}
 use Rattle.integers.specs.Tests.{tri, lt-or-le}
-use Rattle.integers.specs.Ring.{Ex, con, v0, v1, v2, _⊕_, _⊖_, _⊗_, ⊝}
-use Rattle.integers.specs.Certify.{_≼_, _≺_, _≈_, hyp, num, sqr, times, _⊞_, _⊠_, certify-le, certify-lt, certify-eq, certify-no}
+use Rattle.integers.specs.Ring.{Ex, con, v0, v1, v2, _⊗_}
+use Rattle.integers.specs.Certify.{_≼_, _≺_, hyp, _⊞_, _⊠_, certify-le, certify-lt}
 
 abbrev O : Ex
 O = con (pos 0)

@@ -3,11 +3,10 @@ use mathlib.Core.Path.{_≡_, refl, sym, _∙_, ap, subst}
 use mathlib.Core.Bool.{Bool, true, false, not, cond, _&&_}
 use mathlib.Core.Logic.{_⊎_, inl, inr}
 use Prim.Native.Nat.{ℕ, zero, suc, _+_, _^_, _≤_, _<_}
-use native.Mathlib.Omega.{arith}
-use lib.Dec.{T, ltb, leb, eqb, le→leb, lt→ltb, leb→le, leb·zero, leb·suc-zero, leb·suc-suc}
-use lib.IntN.{ℤ, pos, negsuc, negℤ, natAbs, _+ℤ_, _-ℤ_}
+use lib.Dec.{T, leb, eqb, leb→le, leb·zero, leb·suc-zero, leb·suc-suc}
+use lib.IntN.{ℤ, pos, negsuc, negℤ, natAbs, _-ℤ_}
 use lib.Signed.{mag, ltZ, leZ, _≤ℤ_, _<ℤ_, ltZ-no, clashℤ}
-use borrow.Author.Tests.{eqb-true, eqb-false, eq-eqb, ne-eqb}
+use borrow.Author.Tests.{eqb-true, eq-eqb, ne-eqb}
 use mir.Syntax.{w64}
 use mir.Val.{SFits, toZ, ofZ}
 use mir.Facts.{toZ-ofZ}

@@ -2,11 +2,11 @@
 -- They rule out rounding to the nearest (3), a crossing solved from the edge's end (3) and the return of an overlap (10).
 use mathlib.Core.Path.{_≡_, refl}
 use mathlib.Core.List.{List, [], _∷_}
-use lib.IntN.{ℤ, pos, negsuc, negℤ}
+use lib.IntN.{pos, negsuc}
 use lib.Ieee.{ofInt, sub, mul, div, neg, toSigned, eq, le}
 use Rattle.plane.specs.declared.crossing.Search.{Search}
 use Rattle.plane.specs.declared.crossing.Search.the-variants.{Missed, Found}
-use Rattle.plane.specs.declared.location.Location.the-variants.{Left, Top, Inside}
+use Rattle.plane.specs.declared.location.Location.the-variants.{Left, Top}
 use Rattle.plane.specs.declared.rect.Rect64.{Rect64}
 use Rattle.plane.specs.Points.{point}
 use Rattle.plane.specs.Rectangle.{rect}

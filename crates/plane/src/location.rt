@@ -20,14 +20,14 @@ pub struct Spot {
 
 impl Spot {
     // On the edge of a side.
-    pub fn on_edge(loc: Location) -> Spot
+    pub(crate) fn on_edge(loc: Location) -> Spot
         ensures { λ r. ⌜ r ≡ spot loc false ⌝ }
     {
         Spot { loc, off: false }
     }
 
     // Beyond a side, or inside.
-    pub fn off_edge(loc: Location) -> Spot
+    pub(crate) fn off_edge(loc: Location) -> Spot
         ensures { λ r. ⌜ r ≡ spot loc true ⌝ }
     {
         Spot { loc, off: true }

@@ -214,7 +214,7 @@ fn middle(a: i64, b: i64) -> i64
 }
 
 // Whether a coordinate is within the limit.
-pub fn within_limit(z: i64) -> bool
+fn within_limit(z: i64) -> bool
     ensures { λ r. ⌜ r ≡ in-limit z ⌝ }
 {
     (-Rect64::MAX_COORDINATE <= z) & (z <= Rect64::MAX_COORDINATE)

@@ -1,31 +1,28 @@
 -- `add` on the lent lists: a point put behind the last one, with or without a new result, is the definition's `add`, and the walk fits again.
 -- Assumes nothing.
-use mathlib.Core.Path.{_≡_, refl, sym, _∙_, ap, subst}
+use mathlib.Core.Path.{_≡_, refl, sym, _∙_, ap}
 use mathlib.Core.Bool.{Bool, true, false, _||_}
-use mathlib.Core.List.{List, [], _∷_, _++_, map}
-use Prim.Native.Nat.{ℕ, zero, suc, _+_, _-_, _*_, _/_, _<_, _≤_}
+use mathlib.Core.List.{List, [], _∷_, map}
+use Prim.Native.Nat.{ℕ, _+_, _-_, _*_, _/_, _<_, _≤_}
 use native.Mathlib.Omega.{arith}
 use native.Mathlib.Numerals.{add-one}
 use native.Mathlib.Decide.{ℕ-discrete}
 use borrow.Author.Tests.{le-leb, lt-leb}
-use lib.ListN.{length, getD, take, set, length-set}
+use lib.ListN.{length, take}
 use lib.Seq.{take-suc-set, getD-set-same, getD-set-other, getD-take, length-take-le}
-use lib.Dec.{leb}
 use lib.IntN.{ℤ}
 use Rattle.plane.specs.declared.point.Point64.{Point64}
-use Rattle.plane.specs.declared.location.Location.{Location}
 use Rattle.plane.specs.Basics.{is-nil, push, Try, refuse, ok}
 use Rattle.plane.specs.Points.{origin, same-point, pt-at, points-of}
 use Rattle.reference.specs.Walk.{Walk, no-room, add}
-use Rattle.entry.specs.declared.answer.Refusal.{Refusal}
 use Rattle.entry.specs.declared.answer.Refusal.the-variants.{StoreFull}
 use Rattle.rectclip.specs.declared.walk.WalkState.{WalkState}
 use Rattle.rectclip.specs.declared.walk.Step.{Step}
 use Rattle.rectclip.specs.declared.walk.Step.the-variants.{Walked, Refused}
-use Rattle.rectclip.specs.Memory.{at, put, put-point, Room, column}
+use Rattle.rectclip.specs.Memory.{at, put, put-point, column}
 use Rattle.rectclip.specs.Bounds.{Reached}
 use Rattle.rectclip.specs.Walking.{location, walk-of, Fits, Adds, Stepped}
-use Rattle.rectclip.proofs.Memory.{length-put, room-put, at-put, at-put-slot, at-put-field}
+use Rattle.rectclip.proofs.Memory.{room-put, at-put, at-put-slot}
 use Rattle.rectclip.proofs.Columns.{column-pushed, column-other}
 use Rattle.rectclip.proofs.Walking.{step-walked, step-refused}
 use Rattle.rectclip.proofs.Coordinates.{points-length, points-take, points-put, length-put-point}

@@ -1,19 +1,18 @@
 -- The work list as the definition's arena: what a read at a field is there, and what a store does to it. One law for each kind of field. Assumes nothing.
-use mathlib.Core.Path.{_≡_, refl, sym, _∙_, ap}
-use mathlib.Core.List.{List, [], _∷_, _++_}
-use Prim.Native.Nat.{ℕ, zero, suc, _+_, _*_, _<_, _≤_}
+use mathlib.Core.Path.{_≡_, refl, _∙_, ap}
+use mathlib.Core.List.{List, [], _∷_}
+use Prim.Native.Nat.{ℕ, zero, suc, _+_, _<_, _≤_}
 use native.Mathlib.Omega.{arith}
 use native.Mathlib.Decide.{ℕ-discrete}
 use lib.ListN.{length, getD, set}
 use lib.Dec.{eqb, ltb}
 use borrow.Author.Tests.{eq-eqb, ne-eqb}
 use Rattle.plane.specs.Basics.{if_then_else_, none, push}
-use Rattle.reference.specs.Arena.{Arena, owner-of, edge-of, next-of, prev-of, result-of, edge-list, set-owner, set-edge, set-next, set-prev, set-results, set-edge-list, set-result, set-entry}
+use Rattle.reference.specs.Arena.{owner-of, edge-of, next-of, prev-of, result-of, edge-list, set-owner, set-edge, set-next, set-prev, set-results, set-edge-list, set-result, set-entry}
 use Rattle.rectclip.specs.declared.arena.Sizes.{Sizes}
 use Rattle.rectclip.specs.Memory.{at, put, Room, column}
 use Rattle.rectclip.specs.Arenas.{columns, arena-at, longer, longer-list, one-result-more}
-use Rattle.rectclip.proofs.Memory.{length-put}
-use Rattle.rectclip.proofs.Columns.{column-at, column-length, column-put, column-other, column-pushed, column-behind}
+use Rattle.rectclip.proofs.Columns.{column-at, column-put, column-other, column-pushed}
 
 -- ---- reading
 module _ (m : List ℕ) (s : Sizes) where

@@ -1,13 +1,12 @@
 -- Changes of the arena, one on top of another, where sizes may grow. Assumes nothing.
-use mathlib.Core.Path.{_≡_, refl, sym, _∙_, ap, subst}
+use mathlib.Core.Path.{_≡_, refl, _∙_, subst}
 use mathlib.Core.List.{List}
 use Prim.Native.Nat.{ℕ, _+_, _<_, _≤_}
 use native.Mathlib.Omega.{arith}
 use native.Mathlib.Decide.{ℕ-discrete}
 use lib.ListN.{length, getD, set}
 use lib.Seq.{getD-set-same, getD-set-other}
-use Rattle.plane.specs.Basics.{none, push}
-use Rattle.reference.specs.Arena.{Arena, edge-list, set-edge-list}
+use Rattle.reference.specs.Arena.{Arena}
 use Rattle.rectclip.specs.declared.arena.Sizes.{Sizes}
 use Rattle.rectclip.specs.Arenas.{arena-at, Holds, Leaves, Grows, Becomes, Enters, Spare, longer-list, one-result-more}
 

@@ -1,18 +1,17 @@
 -- The nodes put down one after another are the definition's ring of the walked points. Assumes nothing.
 use mathlib.Core.Path.{_≡_, refl, sym, _∙_, ap}
-use mathlib.Core.List.{List, [], _∷_, _++_}
+use mathlib.Core.List.{List, [], _∷_}
 use Prim.Native.Nat.{ℕ, zero, suc, _+_, _*_, _-_, _<_, _≤_}
 use native.Mathlib.Omega.{arith}
 use native.Mathlib.Decide.{ℕ-discrete}
 use lib.ListN.{length, getD, replicate, length-append, length-replicate, getD-replicate, List·getD-append}
 use lib.Seq.{ext-getD, getD-at}
-use lib.Dec.{eqb}
 use borrow.Author.Tests.{eq-eqb, ne-eqb}
-use Rattle.plane.specs.Basics.{if_then_else_, none, push, upwards}
-use Rattle.reference.specs.Arena.{Arena, edge-list, ring}
+use Rattle.plane.specs.Basics.{none, push, upwards}
+use Rattle.reference.specs.Arena.{edge-list, ring}
 use Rattle.rectclip.specs.declared.arena.Sizes.{Sizes}
 use Rattle.rectclip.specs.Memory.{at, put, Room, column, from}
-use Rattle.rectclip.specs.Arenas.{arena-at, columns, Valid, Holds, Marked, Space, Spare, free}
+use Rattle.rectclip.specs.Arenas.{arena-at, Spare, free}
 use Rattle.rectclip.specs.Rings.{NodeAt, Placed, after, before, Linked, Built}
 use Rattle.rectclip.proofs.Memory.{length-put, room-put, at-put, at-put-field, at-put-slot}
 use Rattle.rectclip.proofs.Columns.{column-at, column-length}

@@ -21,7 +21,7 @@ use Rattle.entry.specs.declared.answer.Answer.{Answer}
 use Rattle.entry.specs.declared.answer.Answer.the-variants as answer
 use Rattle.entry.specs.declared.answer.Counts.{Counts}
 use Rattle.entry.specs.declared.answer.Refusal.{Refusal}
-use Rattle.entry.specs.Answers.{number, outcome, checked, admission}
+use Rattle.entry.specs.Answers.{outcome, checked, admission}
 use Rattle.entry.proofs.Admitting.{Let, let-through, told-stopped, told-admitted}
 use Rattle.entry.proofs.Sheets.{number-not-zero}
 use Rattle.rectclip.specs.Promises.{lent, Leaves}

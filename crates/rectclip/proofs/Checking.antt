@@ -1,29 +1,28 @@
 -- `check_edges` over the work list is the definition's, result by result. Assumes nothing.
-use mathlib.Core.Path.{_≡_, refl, sym, _∙_, ap, subst}
-use mathlib.Core.List.{List, [], _∷_}
-use Prim.Native.Nat.{ℕ, zero, suc, _+_, _*_, _-_, _<_, _≤_}
+use mathlib.Core.Path.{_≡_, refl, sym, _∙_, ap}
+use mathlib.Core.List.{List}
+use Prim.Native.Nat.{ℕ, suc, _+_, _*_, _-_, _<_, _≤_}
 use native.Mathlib.Omega.{arith}
 use native.Mathlib.Numerals.{add-one}
 use lib.ListN.{length}
 use lib.IntN.{ℤ}
-use lib.Dec.{eqb}
 use borrow.Author.Tests.{eq-eqb, ne-eqb}
 use Rattle.plane.specs.declared.point.Point64.{Point64}
 use Rattle.plane.specs.declared.rect.Rect64.{Rect64}
-use Rattle.plane.specs.Basics.{if_then_else_, none, upwards}
+use Rattle.plane.specs.Basics.{none, upwards}
 use Rattle.plane.specs.Rectangle.{get-edges-for-pt}
 use Rattle.reference.specs.Arena as reference
 use Rattle.reference.specs.Arena.{Arena, pt-of, prev-of, result-of, set-result, drop-collinear, assign-edges, check-ring, check-from, check-edges}
 use Rattle.rectclip.specs.declared.arena.Sizes.{Sizes}
 use Rattle.rectclip.specs.declared.rings.Round.{Round}
-use Rattle.rectclip.specs.Arenas.{arena-at, Holds, Leaves, Becomes, Enters, Spare}
-use Rattle.rectclip.specs.Stored.{points-in, Drawn}
+use Rattle.rectclip.specs.Arenas.{arena-at, Leaves, Enters, Spare}
+use Rattle.rectclip.specs.Stored.{points-in}
 use Rattle.rectclip.specs.Rings.{Passing, Passed}
 use Rattle.rectclip.specs.Edges.{Assigning, Checking, check-result}
 use Rattle.rectclip.proofs.Unlinking.{then-leaves}
 use Rattle.rectclip.proofs.Stored.{points-in-length}
 use Rattle.rectclip.proofs.Spare.{results-length, spare-dropped, spare-result, spare-slots}
-use Rattle.rectclip.proofs.Becoming.{becomes-left, becomes-renamed, enters-same, enters-renamed, then-becomes, then-enters}
+use Rattle.rectclip.proofs.Becoming.{becomes-left, becomes-renamed, enters-same, enters-renamed, then-enters}
 
 module _ {store : List ℤ} {m : List ℕ} {s : Sizes} (x : Checking store m s) (rect : Rect64) (i start : ℕ) (e : start ≡ result-of (arena-at m s) i) where
   -- there is no ring

@@ -17,7 +17,7 @@ use Rattle.plane.specs.declared.crossing.Search.{Search}
 use Rattle.plane.specs.declared.crossing.Search.the-variants.{Missed, Found}
 use Rattle.plane.specs.Basics.{ok, _>>=_}
 use Rattle.plane.specs.Intersection.{get-intersection}
-use Rattle.plane.specs.Limit.{rect-in-limit, Limited}
+use Rattle.plane.specs.Limit.{rect-in-limit}
 use Rattle.plane.specs.Locations.{is-inside, same-location}
 use Rattle.plane.specs.Points.{same-point, pt-at, points-of}
 use Rattle.plane.specs.Rectangle.{mid-point, get-location}

@@ -1,14 +1,13 @@
 -- A list of coordinates as points: what stands at a position, how many there are, and one point more. Assumes nothing.
 use mathlib.Core.Path.{_≡_, refl, sym, _∙_, ap}
-use mathlib.Core.List.{List, [], _∷_, _++_}
-use Prim.Native.Nat.{ℕ, zero, suc, _+_, _*_, _<_, _≤_, _/_}
+use mathlib.Core.List.{List, [], _∷_}
+use Prim.Native.Nat.{ℕ, zero, suc, _+_, _*_, _<_, _/_}
 use native.Mathlib.Omega.{arith}
-use native.Mathlib.Numerals.{add-one, add-two}
 use lib.ListN.{length, getD, set, take, length-set}
 use lib.Seq.{take-nil}
 use lib.IntN.{ℤ, pos}
 use Rattle.plane.specs.declared.point.Point64.{Point64}
-use Rattle.plane.specs.Points.{point, origin, pt-at, points-of}
+use Rattle.plane.specs.Points.{point, pt-at, points-of}
 use Rattle.rectclip.specs.Memory.{put-point}
 
 -- point i is made of the coordinates at 2 i and 2 i + 1

@@ -1,6 +1,5 @@
 -- The nodes of rings are counted over the work list as the definition goes round them. Assumes nothing.
 use mathlib.Core.Path.{_≡_, refl, sym, _∙_, ap}
-use mathlib.Core.Bool.{Bool, true, false}
 use mathlib.Core.List.{List, [], _∷_, _++_}
 use Prim.Native.Nat.{ℕ, zero, suc, _+_, _*_, _-_, _<_, _≤_}
 use native.Mathlib.Omega.{arith}
@@ -8,9 +7,8 @@ use native.Mathlib.Numerals.{add-one}
 use native.Mathlib.Decide.{ℕ-discrete}
 use native.Mathlib.Nat.{mul-le-mul, add-mul, one-mul}
 use lib.ListN.{length, length-append}
-use lib.Dec.{eqb}
 use borrow.Author.Tests.{eq-eqb, ne-eqb}
-use Rattle.plane.specs.Basics.{if_then_else_, none, upwards}
+use Rattle.plane.specs.Basics.{none, upwards}
 use Rattle.reference.specs.Arena.{Arena, next-of, result-of}
 use Rattle.rectclip.specs.declared.arena.Sizes.{Sizes}
 use Rattle.rectclip.specs.declared.paths.Counts.{Counts}

@@ -1,19 +1,17 @@
 -- A drawing handed out: refusal 11 where a list is too short for all of it, else its counts and the filled lists. And where the
 -- returned points come from. Assumes nothing.
-use mathlib.Core.Path.{_≡_, refl, sym, _∙_, ap}
+use mathlib.Core.Path.{_≡_, refl}
 use mathlib.Core.Bool.{Bool, true, false, _||_}
-use mathlib.Core.List.{List, [], _∷_, _++_, map}
-use Prim.Native.Nat.{ℕ, zero, suc, _+_, _*_, _/_, _<_, _≤_}
+use mathlib.Core.List.{List, map}
+use Prim.Native.Nat.{ℕ, _*_, _<_, _≤_}
 use native.Mathlib.Omega.{arith}
-use borrow.Author.Tests.{lt-ltb, le-ltb, le-leb, lt-leb}
+use borrow.Author.Tests.{lt-ltb, le-ltb}
 use lib.Dec.{ltb}
 use lib.IntN.{ℤ}
-use lib.ListN.{length, take, drop, length-map, length-append}
-use lib.Seq.{take-at}
+use lib.ListN.{length, length-map}
 use Rattle.plane.specs.declared.point.Point64.{Point64}
-use Rattle.plane.specs.Points.{points-of, coordinates-of}
-use Rattle.reference.specs.Entry.{Drawing, Lent, After, joined, filled, delivered, filled-part}
-use Rattle.entry.specs.declared.answer.Answer.{Answer}
+use Rattle.plane.specs.Points.{coordinates-of}
+use Rattle.reference.specs.Entry.{Drawing, Lent, joined, delivered}
 use Rattle.entry.specs.declared.answer.Answer.the-variants as answer
 use Rattle.entry.specs.declared.answer.Counts.{Counts}
 use Rattle.entry.specs.declared.answer.Refusal.the-variants.{ListsTooShort}

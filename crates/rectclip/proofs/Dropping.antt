@@ -1,9 +1,9 @@
 -- The loops that drop nodes on a line with their neighbours, over the work list, are the definition's, pass by pass. Assumes nothing.
-use mathlib.Core.Path.{_≡_, refl, sym, _∙_, ap, subst}
+use mathlib.Core.Path.{_≡_, refl, sym, _∙_, ap}
 use mathlib.Core.Bool.{Bool, true, false, not, _&&_, _||_}
 use mathlib.Core.List.{List}
 use mathlib.Core.Logic.{_⊎_, inl, inr, ⊎-elim}
-use Prim.Native.Nat.{ℕ, zero, suc, _+_, _*_, _-_, _<_, _≤_}
+use Prim.Native.Nat.{ℕ, suc, _-_, _<_, _≤_}
 use native.Mathlib.Omega.{arith}
 use native.Mathlib.Decide.{ℕ-discrete}
 use lib.ListN.{length}
@@ -11,13 +11,12 @@ use lib.Dec.{eqb}
 use borrow.Author.Tests.{eq-eqb, ne-eqb}
 use Rattle.plane.specs.declared.point.Point64.{Point64}
 use Rattle.plane.specs.Basics.{if_then_else_, none}
-use Rattle.reference.specs.Arena.{Arena, next-of, prev-of, unlink, unlink-op, unlink-op-back, is-flat, drop-collinear-pass, drop-collinear}
-use Rattle.reference.specs.Arena as reference
-use Rattle.reference.specs.Clip.{straighten-pass, straighten}
+use Rattle.reference.specs.Arena.{Arena, next-of, prev-of, unlink-op-back, is-flat, drop-collinear-pass, drop-collinear}
+use Rattle.reference.specs.Clip.{straighten-pass}
 use Rattle.rectclip.specs.declared.arena.Sizes.{Sizes}
 use Rattle.rectclip.specs.declared.rings.Neighbours.{Neighbours}
 use Rattle.rectclip.specs.declared.rings.Round.{Round}
-use Rattle.rectclip.specs.Arenas.{arena-at, Holds, Leaves, Marked}
+use Rattle.rectclip.specs.Arenas.{arena-at, Holds, Marked}
 use Rattle.rectclip.specs.Rings.{Unlinked, Passed}
 use Rattle.rectclip.proofs.Unlinking.{same-arena}
 

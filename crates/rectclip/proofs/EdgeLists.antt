@@ -1,12 +1,10 @@
 -- A node that enters an edge list over the work list, and "Assign edges" with it, are the definition's. Assumes nothing.
 use mathlib.Core.Path.{_≡_, refl, sym, _∙_, ap}
-use mathlib.Core.Bool.{Bool, true, false, not, _&&_}
-use mathlib.Core.List.{List, [], _∷_}
-use Prim.Native.Nat.{ℕ, zero, suc, _+_, _*_, _-_, _<_, _≤_}
+use mathlib.Core.Bool.{Bool, true, false}
+use mathlib.Core.List.{List}
+use Prim.Native.Nat.{ℕ, suc, _+_, _*_, _-_, _<_, _≤_}
 use native.Mathlib.Omega.{arith}
-use lib.ListN.{length, getD}
 use lib.IntN.{ℤ}
-use lib.Dec.{eqb}
 use borrow.Author.Tests.{eq-eqb, ne-eqb}
 use Rattle.plane.specs.declared.point.Point64.{Point64}
 use Rattle.plane.specs.declared.rect.Rect64.{Rect64}
@@ -17,11 +15,11 @@ use Rattle.plane.specs.Signs.{is-heading-clockwise}
 use Rattle.plane.specs.Rectangle.{get-edges-for-pt, has-edge}
 use Rattle.reference.specs.Arena.{Arena, pt-of, next-of, prev-of, edge-of, edge-list, set-edge, set-edge-list, add-to-edge, assign-side, assign-edges}
 use Rattle.rectclip.specs.declared.arena.Sizes.{Sizes}
-use Rattle.rectclip.specs.Arenas.{arena-at, Holds, Leaves, Grows, Becomes, Enters, Spare, longer-list}
-use Rattle.rectclip.specs.Stored.{points-in, Drawn}
+use Rattle.rectclip.specs.Arenas.{arena-at, Leaves, Grows, Enters, longer-list}
+use Rattle.rectclip.specs.Stored.{points-in}
 use Rattle.rectclip.specs.Edges.{Entering, Assigning, assign-node}
 use Rattle.rectclip.proofs.Spare.{edge-length, list-length, spare-room, spare-entered, spare-slots}
-use Rattle.rectclip.proofs.Becoming.{becomes-left, becomes-renamed, becomes-entry, enters-same, enters-renamed, then-becomes, then-enters}
+use Rattle.rectclip.proofs.Becoming.{becomes-left, becomes-entry, enters-same, enters-renamed, then-becomes, then-enters}
 
 -- ---- add_to_edge
 module _ {m : List ℕ} {s : Sizes} {e op : ℕ} (x : Entering m s e op) (v : ℕ) (h : v ≡ edge-of (arena-at m s) op) where

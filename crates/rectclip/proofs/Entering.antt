@@ -1,24 +1,21 @@
 -- The line clipper's drawing by its cases, what is left of it, and the line clipper's entry. Assumes nothing.
-use mathlib.Core.Path.{_≡_, refl, sym, _∙_, ap}
-use mathlib.Core.Bool.{Bool, true, false, not, _||_}
-use mathlib.Core.List.{List, [], map}
-use Prim.Native.Nat.{ℕ, suc, _+_, _*_, _/_, _%_, _<_, _≤_}
+use mathlib.Core.Path.{_≡_, refl}
+use mathlib.Core.Bool.{true, false}
+use mathlib.Core.List.{List, []}
+use Prim.Native.Nat.{ℕ, _/_}
 use native.Mathlib.Omega.{arith}
-use borrow.Author.Tests.{eq-eqb, ne-eqb, eqb-false, lt-ltb, le-ltb, ltb-false, le-leb, not-false}
-use lib.Dec.{eqb, ltb}
 use lib.IntN.{ℤ, pos}
-use lib.ListN.{length, take, drop, replicate, length-map}
-use lib.Seq.{take-at}
+use lib.ListN.{length, replicate}
 use Rattle.integers.specs.Tests.{T-of}
 use Rattle.plane.specs.declared.point.Point64.{Point64}
 use Rattle.plane.specs.declared.rect.Rect64.{Rect64}
-use Rattle.plane.specs.Basics.{if_then_else_, Try, refuse, ok, _>>=_}
+use Rattle.plane.specs.Basics.{Try, refuse, ok, _>>=_}
 use Rattle.plane.specs.Limit.{all-in-limit, rect-in-limit}
-use Rattle.plane.specs.Points.{points-of, coordinates-of}
+use Rattle.plane.specs.Points.{points-of}
 use Rattle.plane.specs.Rectangle.{is-empty, intersects, get-bounds-path}
 use Rattle.reference.specs.Walk.{Walk, no-room}
 use Rattle.reference.specs.Lines.{walk-open, execute-lines}
-use Rattle.reference.specs.Entry.{refused, drawn, Drawing, Lent, After, joined, filled, delivered, answered, early-refusal, sheet-refusal, clip-open, filled-part}
+use Rattle.reference.specs.Entry.{Drawing, Lent, answered, early-refusal, clip-open}
 use Rattle.theorems.proofs.Demand.{open-sourced}
 use Rattle.entry.specs.declared.answer.Answer.{Answer}
 use Rattle.entry.specs.declared.answer.Answer.the-variants as answer

@@ -1,24 +1,22 @@
 -- The polygon clipper after its walk is the definition's: one step's arena is the next one's. Assumes nothing.
-use mathlib.Core.Path.{_≡_, refl, sym, _∙_, ap}
-use mathlib.Core.Bool.{Bool, true, false}
+use mathlib.Core.Path.{_≡_, refl, sym, _∙_}
+use mathlib.Core.Bool.{true, false}
 use mathlib.Core.List.{List}
 use Prim.Native.Nat.{ℕ, _-_}
 use native.Mathlib.Omega.{arith}
-use lib.ListN.{length}
 use lib.IntN.{ℤ}
-use Rattle.plane.specs.declared.point.Point64.{Point64}
 use Rattle.plane.specs.declared.rect.Rect64.{Rect64}
-use Rattle.plane.specs.Basics.{upwards, Try, refuse, ok}
+use Rattle.plane.specs.Basics.{upwards, Try}
 use Rattle.reference.specs.Arena.{Arena, check-edges}
 use Rattle.rectclip.specs.declared.arena.Sizes.{Sizes}
 use Rattle.rectclip.specs.declared.paths.Counts.{Counts}
 use Rattle.rectclip.specs.declared.tidy.Tidied.{Tidied}
-use Rattle.rectclip.specs.Arenas.{arena-at, Holds, Leaves, Enters, Spare}
+use Rattle.rectclip.specs.Arenas.{arena-at, Leaves, Enters}
 use Rattle.rectclip.specs.Stored.{points-in, Drawn}
 use Rattle.rectclip.specs.Edges.{Checking}
 use Rattle.rectclip.specs.Paths.{straighten-results, nodes-read, CountedAll}
 use Rattle.rectclip.specs.Turns.{Allowing, answer, TidiedAs, tidied-all}
-use Rattle.rectclip.specs.Clipping.{Clipping, Straight, ClippedAs}
+use Rattle.rectclip.specs.Clipping.{Clipping, ClippedAs}
 use Rattle.rectclip.proofs.Spare.{results-length, spare-slots}
 
 module _ {store : List ℤ} {m : List ℕ} {s : Sizes} {A : ℕ} (x : Clipping store m s A) where

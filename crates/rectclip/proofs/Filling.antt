@@ -3,7 +3,7 @@ use mathlib.Core.Path.{_≡_, refl, sym, _∙_, ap}
 use mathlib.Core.List.{List, [], _∷_, _++_, map}
 use Prim.Native.Nat.{ℕ, _+_, _*_, _≤_}
 use native.Mathlib.Omega.{arith}
-use lib.ListN.{length, take, drop, length-map}
+use lib.ListN.{length, drop, length-map}
 use lib.Seq.{sets, sets-eq}
 use lib.IntN.{ℤ}
 use Rattle.plane.specs.declared.point.Point64.{Point64}
@@ -11,7 +11,7 @@ use Rattle.plane.specs.Points.{coordinates-of}
 use Rattle.reference.specs.Arena.{pt-of}
 use Rattle.reference.specs.Entry.{joined, filled}
 use Rattle.rectclip.specs.declared.paths.Counts.{Counts}
-use Rattle.rectclip.specs.Paths.{all-nodes, coordinates-at, CountedAll, Written, nothing-yet}
+use Rattle.rectclip.specs.Paths.{all-nodes, coordinates-at, Written, nothing-yet}
 use Rattle.rectclip.proofs.WriteOut.{map-join, coordinates-length}
 
 sets-filled : {A : Type 0} (c v : List A) → length v ≤ length c → sets c 0 v ≡ filled v c

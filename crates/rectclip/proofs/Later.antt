@@ -7,21 +7,21 @@ use mathlib.Core.Logic.{_⊎_, inl, inr, ⊎-elim}
 use Prim.Native.Nat.{ℕ, zero, suc, _+_, _*_, _<_, _≤_}
 use native.Mathlib.Omega.{arith}
 use native.Mathlib.Decide.{ℕ-discrete}
-use lib.ListN.{length, getD, set, length-set}
+use lib.ListN.{length, getD, length-set}
 use lib.Seq.{getD-set-same, getD-set-other}
 use lib.Dec.{eqb}
 use borrow.Author.Tests.{eq-eqb, ne-eqb, eqb-true}
 use Rattle.plane.specs.declared.point.Point64.{Point64}
-use Rattle.plane.specs.Basics.{if_then_else_, none, is-nil, upwards}
+use Rattle.plane.specs.Basics.{none, upwards}
 use Rattle.reference.specs.Arena.{Arena, pt-of, next-of, prev-of, result-of, set-result, set-results}
 use Rattle.reference.specs.Tidy.{is-stub}
 use Rattle.reference.specs.Clip.{straighten, points-from, get-path, get-paths}
 use Rattle.rectclip.specs.Paths.{straighten-result, straighten-results, nodes-from, nodes-of, nodes-read}
-use Rattle.theorems.proofs.RingLaw.{Chain, Ring, end}
+use Rattle.theorems.proofs.RingLaw.{Chain, end}
 use Rattle.theorems.proofs.RingLists.{RingOf, In}
 use Rattle.theorems.proofs.RingStep.{Found, node-in, next-live}
 use Rattle.theorems.proofs.TidyInv.{weight}
-use Rattle.theorems.proofs.Reading.{Some, Kept, straight-kept}
+use Rattle.theorems.proofs.Reading.{Some, straight-kept}
 
 -- ---- points and nodes
 points-nodes : (pts : List Point64) (left : ℕ) (a : Arena) (start curr : ℕ) → points-from pts left a start curr ≡ map (pt-of pts) (nodes-from left a start curr)

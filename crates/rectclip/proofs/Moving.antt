@@ -24,7 +24,7 @@ use Rattle.rectclip.specs.declared.next.NextState.{NextState}
 use Rattle.rectclip.specs.declared.next.Move.{Move}
 use Rattle.rectclip.specs.declared.next.Move.the-variants.{To, Stopped}
 use Rattle.rectclip.specs.Walking.{walk-of, Fits, Stepped}
-use Rattle.rectclip.specs.Moving.{exit-side, scanned, next-of, moved, Moved}
+use Rattle.rectclip.specs.Moving.{exit-side, scanned, next-of, Moved}
 use Rattle.rectclip.proofs.Coordinates.{points-length}
 use Rattle.rectclip.proofs.Walking.{walked-is, refused-is, Going, going-start, going-on}
 use Rattle.rectclip.proofs.Scanning.{outside-forth, next-as-outside, inside-out, inside-go, inside-stop, inside-end}

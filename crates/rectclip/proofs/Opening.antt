@@ -1,7 +1,7 @@
 -- The line clipper's walk from its start: the state that has nothing yet, the starting location, and the passes. Assumes nothing.
 use mathlib.Core.Path.{_≡_, refl, sym, _∙_, ap, subst}
 use mathlib.Core.Bool.{Bool, true, false}
-use mathlib.Core.List.{List, [], _∷_}
+use mathlib.Core.List.{List}
 use Prim.Native.Nat.{ℕ, _+_, _/_, _<_, _≤_}
 use native.Mathlib.Omega.{arith}
 use borrow.Author.Tests.{lt-ltb, le-ltb}
@@ -15,17 +15,16 @@ use Rattle.plane.specs.declared.location.Location.the-variants.{Inside}
 use Rattle.plane.specs.declared.location.Spot.{Spot}
 use Rattle.plane.specs.declared.crossing.Search.{Search}
 use Rattle.plane.specs.declared.crossing.Search.the-variants.{Missed, Found}
-use Rattle.plane.specs.Basics.{Try, refuse, ok, _>>=_}
+use Rattle.plane.specs.Basics.{Try, ok, _>>=_}
 use Rattle.plane.specs.Locations.{is-inside}
 use Rattle.plane.specs.Points.{pt-at, points-of}
 use Rattle.plane.specs.Rectangle.{get-location}
-use Rattle.reference.specs.Walk.{Walk, Next, no-room, nothing-yet, add, add-all}
+use Rattle.reference.specs.Walk.{Walk, no-room, nothing-yet, add, add-all}
 use Rattle.reference.specs.Lines.{first-off-edge, line-passes, line-walk-from, walk-open}
 use Rattle.entry.specs.declared.answer.Refusal.{Refusal}
 use Rattle.rectclip.specs.declared.walk.WalkState.{WalkState}
 use Rattle.rectclip.specs.declared.walk.Step.{Step}
 use Rattle.rectclip.specs.declared.walk.Step.the-variants.{Walked, Refused}
-use Rattle.rectclip.specs.declared.next.NextState.{NextState}
 use Rattle.rectclip.specs.declared.next.Move.{Move}
 use Rattle.rectclip.specs.Memory.{Room, from, column}
 use Rattle.rectclip.specs.Walking.{walk-of, Fits, Stepped}

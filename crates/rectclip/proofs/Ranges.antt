@@ -1,14 +1,14 @@
 -- Every number of the arena stays in its range: one law for each of the definition's stores. Assumes nothing.
-use mathlib.Core.Path.{_≡_, refl, sym, _∙_, ap, subst}
-use mathlib.Core.List.{List, [], _∷_, _++_}
+use mathlib.Core.Path.{_≡_, sym, _∙_, ap, subst}
+use mathlib.Core.List.{List, [], _∷_}
 use mathlib.Core.Logic.{_⊎_, inl, inr, ⊎-elim}
-use Prim.Native.Nat.{ℕ, zero, suc, _+_, _*_, _<_, _≤_}
+use Prim.Native.Nat.{ℕ, zero, suc, _+_, _<_}
 use native.Mathlib.Omega.{arith}
 use native.Mathlib.Decide.{ℕ-discrete, decLt}
 use lib.ListN.{length, getD, set, length-set, length-append}
 use lib.Seq.{getD-set-same, getD-set-other, set-out}
 use Rattle.plane.specs.Basics.{none, push}
-use Rattle.reference.specs.Arena.{Arena, owner-of, edge-of, next-of, prev-of, result-of, edge-list, set-owner, set-edge, set-next, set-prev, set-results, set-edge-list, set-result, set-entry}
+use Rattle.reference.specs.Arena.{Arena, edge-list, set-owner, set-edge, set-next, set-prev, set-results, set-edge-list, set-result, set-entry}
 use Rattle.rectclip.specs.Arenas.{Valid, Marked}
 
 -- what stands at j after a store at i: the number stored, or what was there

@@ -1,7 +1,7 @@
 -- Points within the coordinate limit are within reach, one unit past it; so are a polygon's vertices and the rectangle's corners. Assumes nothing.
 use mathlib.Core.Path.{_≡_, subst, sym}
 use mathlib.Core.List.{List}
-use Prim.Native.Nat.{ℕ, zero, suc, _/_, _%_, _<_}
+use Prim.Native.Nat.{ℕ, zero, suc, _%_, _<_}
 use native.Mathlib.Omega.{arith}
 use lib.Dec.{T}
 use lib.IntN.{ℤ}

@@ -1,18 +1,18 @@
 -- The points of rings are read out into a list of coordinates, one behind the other, as the definition goes round the rings. Assumes nothing.
 use mathlib.Core.Path.{_≡_, refl, sym, _∙_, ap}
-use mathlib.Core.List.{List, [], _∷_, _++_, map}
-use Prim.Native.Nat.{ℕ, zero, suc, _+_, _*_, _-_, _<_, _≤_}
+use mathlib.Core.List.{List, [], _∷_, map}
+use Prim.Native.Nat.{ℕ, suc, _+_, _*_, _-_, _<_, _≤_}
 use native.Mathlib.Omega.{arith}
 use lib.ListN.{length, set, length-set}
 use lib.Seq.{sets}
 use lib.IntN.{ℤ}
 use Rattle.plane.specs.declared.point.Point64.{Point64}
 use Rattle.plane.specs.Points.{coordinates-of}
-use Rattle.reference.specs.Arena.{Arena, pt-of, next-of}
+use Rattle.reference.specs.Arena.{pt-of, next-of}
 use Rattle.rectclip.specs.declared.arena.Sizes.{Sizes}
 use Rattle.rectclip.specs.Memory.{put-point}
 use Rattle.rectclip.specs.Arenas.{arena-at, Holds}
-use Rattle.rectclip.specs.Stored.{points-in, Drawn}
+use Rattle.rectclip.specs.Stored.{points-in}
 use Rattle.rectclip.specs.Paths.{nodes-from, nodes-of, coordinates-at, Reading, Read}
 use Rattle.rectclip.proofs.Counting.{nodes-stop, nodes-step, nodes-out}
 

@@ -1,8 +1,8 @@
 -- Rings split and rejoined, over the work list, are the definition's. Assumes nothing.
 use mathlib.Core.Path.{_≡_, refl, sym, _∙_, ap}
 use mathlib.Core.Bool.{Bool, true, false}
-use mathlib.Core.List.{List, []}
-use Prim.Native.Nat.{ℕ, _+_, _<_}
+use mathlib.Core.List.{List}
+use Prim.Native.Nat.{ℕ, _<_}
 use native.Mathlib.Omega.{arith}
 use lib.ListN.{length}
 use Rattle.plane.specs.Basics.{none, push}
@@ -11,7 +11,7 @@ use Rattle.reference.specs.Tidy.{cw-is-toward-larger, four-of, relink}
 use Rattle.rectclip.specs.declared.arena.Sizes.{Sizes}
 use Rattle.rectclip.specs.declared.regroup.Four.{Four}
 use Rattle.rectclip.specs.Arenas.{arena-at, Holds, Leaves, Grows, Becomes, one-result-more}
-use Rattle.rectclip.specs.Turns.{four, FourIn, Fourth, joined, split, set-roots}
+use Rattle.rectclip.specs.Turns.{four, Fourth, joined, split, set-roots}
 use Rattle.rectclip.proofs.Unlinking.{renamed, then-leaves}
 use Rattle.rectclip.proofs.Spare.{results-length}
 use Rattle.rectclip.proofs.Becoming.{becomes-left, becomes-renamed, becomes-result, then-becomes}

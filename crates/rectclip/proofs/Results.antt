@@ -1,8 +1,7 @@
 -- The results of a walk one after the other: where each starts and ends, which are returned, and how many points they have. Assumes nothing.
 use mathlib.Core.Path.{_≡_, refl, sym, _∙_, ap}
-use mathlib.Core.Bool.{Bool, true, false}
-use mathlib.Core.List.{List, [], _∷_, _++_, map, append-assoc, append-nil}
-use Prim.Native.Nat.{ℕ, zero, suc, _+_, _-_, _*_, _/_, _<_, _≤_}
+use mathlib.Core.List.{List, [], _∷_, _++_, append-assoc, append-nil}
+use Prim.Native.Nat.{ℕ, _+_, _-_, _<_, _≤_}
 use native.Mathlib.Omega.{arith}
 use native.Mathlib.Numerals.{add-one}
 use native.Mathlib.Decide.{ℕ-discrete, decLt}
@@ -13,15 +12,12 @@ use lib.ListN.{length, getD, take, drop, length-append, length-drop, drop-of-len
 use lib.Seq.{drop-cons, take-all, length-take-le}
 use Rattle.plane.specs.declared.point.Point64.{Point64}
 use Rattle.plane.specs.Basics.{if_then_else_}
-use Rattle.plane.specs.Points.{points-of}
-use Rattle.reference.specs.Walk.{Walk}
 use Rattle.reference.specs.Lines.{pieces, longer-than-one}
 use Rattle.reference.specs.Entry.{joined}
 use Rattle.rectclip.specs.declared.walk.WalkState.{WalkState}
-use Rattle.rectclip.specs.declared.pieces.Tally.{Tally}
-use Rattle.rectclip.specs.Memory.{at, Room, column}
+use Rattle.rectclip.specs.Memory.{at, column}
 use Rattle.rectclip.specs.Walking.{walk-of, Fits}
-use Rattle.rectclip.specs.Pieces.{paths-of, start-of, Tallied}
+use Rattle.rectclip.specs.Pieces.{start-of, Tallied}
 use Rattle.rectclip.proofs.Columns.{column-length, column-at}
 use Rattle.rectclip.proofs.Adding.{walk-length}
 

@@ -2,7 +2,7 @@
 use mathlib.Core.Path.{_≡_, refl, sym, _∙_, ap}
 use mathlib.Core.Bool.{Bool, true, false, cond}
 use mathlib.Core.List.{List, [], _∷_}
-use Prim.Native.Nat.{ℕ, zero, suc, _+_, _*_, _/_, _<_, _≤_}
+use Prim.Native.Nat.{ℕ, suc, _+_, _*_, _/_, _<_, _≤_}
 use native.Mathlib.Omega.{arith}
 use native.Mathlib.Numerals.{add-one}
 use native.Mathlib.Decide.{ℕ-discrete}
@@ -14,17 +14,12 @@ use Rattle.plane.specs.declared.point.Point64.{Point64}
 use Rattle.plane.specs.declared.rect.Rect64.{Rect64}
 use Rattle.plane.specs.declared.location.Location.{Location}
 use Rattle.plane.specs.declared.location.Location.the-variants.{Left, Top, Right, Bottom, Inside}
-use Rattle.plane.specs.Basics.{if_then_else_, lead, Try, refuse, ok}
+use Rattle.plane.specs.Basics.{if_then_else_, lead, refuse, ok}
 use Rattle.plane.specs.Locations.{is-inside, opposite, lower, upper}
 use Rattle.plane.specs.Points.{origin, pt-at, points-of}
 use Rattle.plane.specs.Rectangle.{beyond, beyond-or-on}
-use Rattle.reference.specs.Walk.{Walk, Next, no-room, add, next-side, next-outside, next-inside, get-next-location}
-use Rattle.rectclip.specs.declared.walk.WalkState.{WalkState}
-use Rattle.rectclip.specs.declared.walk.Step.{Step}
-use Rattle.rectclip.specs.declared.walk.Step.the-variants.{Walked, Refused}
+use Rattle.reference.specs.Walk.{Walk, add, next-side, next-outside, next-inside, get-next-location}
 use Rattle.rectclip.specs.declared.next.Line.{Line}
-use Rattle.rectclip.specs.declared.next.ScanEnd.{ScanEnd}
-use Rattle.rectclip.specs.Walking.{walk-of, Fits, Stepped}
 use Rattle.rectclip.specs.Moving.{past, past-line, exit-side, LineOf, scanned}
 use Rattle.rectclip.proofs.Coordinates.{points-at, points-length}
 

@@ -1,17 +1,16 @@
 -- The inner loop of `tidy_edges`, over the work list, stops where the definition's does. Assumes nothing.
 use mathlib.Core.Path.{_≡_, refl, sym, _∙_, ap}
-use mathlib.Core.Bool.{Bool, true, false, not, _&&_}
-use mathlib.Core.List.{List, [], _∷_}
-use Prim.Native.Nat.{ℕ, zero, suc, _+_, _-_, _<_, _≤_}
+use mathlib.Core.Bool.{Bool, true, false}
+use mathlib.Core.List.{List}
+use Prim.Native.Nat.{ℕ, _+_, _-_, _<_, _≤_}
 use native.Mathlib.Omega.{arith}
 use native.Mathlib.Numerals.{add-one}
 use lib.ListN.{length, getD, drop, drop-of-length-le}
 use lib.Seq.{drop-cons}
-use lib.Dec.{eqb}
 use borrow.Author.Tests.{eq-eqb}
-use Rattle.plane.specs.Basics.{if_then_else_, none}
+use Rattle.plane.specs.Basics.{none}
 use Rattle.reference.specs.Arena.{Arena, edge-list}
-use Rattle.reference.specs.Tidy.{is-stub, seek}
+use Rattle.reference.specs.Tidy.{seek}
 use Rattle.rectclip.specs.declared.arena.Sizes.{Sizes}
 use Rattle.rectclip.specs.Arenas.{arena-at, Holds}
 use Rattle.rectclip.specs.Turns.{is-live, Sought}

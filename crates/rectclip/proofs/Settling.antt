@@ -1,24 +1,22 @@
 -- The entries of a side after a split or a rejoining, over the work list, are the definition's. Assumes nothing.
-use mathlib.Core.Path.{_≡_, refl, sym, _∙_, ap, subst}
-use mathlib.Core.Bool.{Bool, true, false, not, _||_, Bool·beq}
-use mathlib.Core.List.{List, []}
-use Prim.Native.Nat.{ℕ, suc, _+_, _*_, _<_, _≤_}
+use mathlib.Core.Path.{_≡_, refl, sym, _∙_, subst}
+use mathlib.Core.Bool.{Bool, true, false, not, Bool·beq}
+use mathlib.Core.List.{List}
+use Prim.Native.Nat.{ℕ, suc, _+_, _*_, _<_}
 use native.Mathlib.Omega.{arith}
-use lib.ListN.{getD}
 use lib.IntN.{ℤ}
 use Rattle.plane.specs.declared.point.Point64.{Point64}
-use Rattle.plane.specs.Basics.{if_then_else_, none}
+use Rattle.plane.specs.Basics.{none}
 use Rattle.reference.specs.Arena.{Arena, set-entry, add-to-edge, uncouple-edge}
-use Rattle.reference.specs.Tidy.{cw-is-toward-larger, is-larger, is-spent, keep-one, keep-both, keep-each, settle, turn}
-use Rattle.reference.specs.Tidy as reference
+use Rattle.reference.specs.Tidy.{cw-is-toward-larger, is-larger, is-spent, keep-one, keep-both, keep-each, settle}
 use Rattle.rectclip.specs.declared.arena.Sizes.{Sizes}
 use Rattle.rectclip.specs.declared.settle.Turn.{Turn}
 use Rattle.rectclip.specs.Arenas.{arena-at, Holds, Leaves, Becomes, Enters, Space}
-use Rattle.rectclip.specs.Turns.{Looking, Entries, put-entry, Settling, Turned, Settled, Moves}
-use Rattle.rectclip.proofs.Unlinking.{renamed, then-leaves}
+use Rattle.rectclip.specs.Turns.{Looking, Entries, put-entry, Settling, Settled, Moves}
+use Rattle.rectclip.proofs.Unlinking.{then-leaves}
 use Rattle.rectclip.proofs.Spare.{edge-length}
 use Rattle.rectclip.proofs.Space.{space-less, space-entry, space-put, space-moved}
-use Rattle.rectclip.proofs.Becoming.{becomes-left, becomes-renamed, then-becomes}
+use Rattle.rectclip.proofs.Becoming.{becomes-left, then-becomes}
 
 abbrev pub turn-at : Sizes → ℕ → ℕ → Turn
 turn-at s i j = record { s = s; i = i; j = j }

@@ -1,19 +1,19 @@
 -- Room for results and edge lists over the steps of a turn: a turn takes at most one result and one entry more. Assumes nothing.
-use mathlib.Core.Path.{_≡_, refl, sym, _∙_, ap}
-use mathlib.Core.Bool.{Bool, true, false, not, _&&_}
+use mathlib.Core.Path.{_≡_, refl, ap}
+use mathlib.Core.Bool.{Bool, true, false}
 use mathlib.Core.List.{List, [], _∷_}
 use mathlib.Core.Logic.{⊎-elim}
-use Prim.Native.Nat.{ℕ, zero, suc, _+_, _*_, _<_, _≤_}
+use Prim.Native.Nat.{ℕ, zero, suc, _+_, _*_, _<_}
 use native.Mathlib.Omega.{arith}
 use native.Mathlib.Decide.{ℕ-discrete}
-use lib.ListN.{length, getD, set, length-set, length-append}
+use lib.ListN.{length, set, length-set, length-append}
 use lib.Seq.{getD-set-same}
 use lib.Dec.{eqb}
 use borrow.Author.Tests.{eq-eqb, ne-eqb}
 use Rattle.plane.specs.Basics.{if_then_else_, none, push}
 use Rattle.reference.specs.Arena.{Arena, next-of, owner-of, edge-of, edge-list, set-next, set-prev, set-owner, set-edge, set-edge-list, set-results, set-entry, struck, own-from, set-new-owner, add-to-edge, uncouple-edge}
 use Rattle.reference.specs.Tidy.{Four, relink, cw-is-toward-larger}
-use Rattle.rectclip.specs.Arenas.{Marked, free, Space}
+use Rattle.rectclip.specs.Arenas.{Marked, Space}
 use Rattle.rectclip.specs.Turns.{put-entry, joined, split, set-roots}
 use Rattle.rectclip.proofs.Ranges.{set-or}
 use Rattle.rectclip.proofs.Spare.{by-test, free-any, spare-entered, spare-result}

@@ -1,5 +1,5 @@
 -- Room for results and edge lists, as the arena's lists have it: what entering a list, striking an entry and pushing take. Assumes nothing.
-use mathlib.Core.Path.{_≡_, refl, sym, _∙_, ap}
+use mathlib.Core.Path.{_≡_, _∙_, ap}
 use mathlib.Core.Bool.{Bool, true, false, not, _&&_, _||_}
 use mathlib.Core.List.{List, [], _∷_}
 use mathlib.Core.Logic.{⊎-elim}
@@ -13,7 +13,7 @@ use Rattle.plane.specs.declared.point.Point64.{Point64}
 use Rattle.plane.specs.Basics.{if_then_else_, none, push}
 use Rattle.reference.specs.Arena.{Arena, Round, next-of, prev-of, edge-of, edge-list, set-edge, set-next, set-prev, set-result, set-results, set-edge-list, unlink, unlink-op-back, is-flat, drop-collinear-pass, drop-collinear}
 use Rattle.rectclip.specs.declared.arena.Sizes.{Sizes}
-use Rattle.rectclip.specs.Arenas.{arena-at, Holds, free, Space, Spare}
+use Rattle.rectclip.specs.Arenas.{arena-at, free, Space, Spare}
 use Rattle.rectclip.proofs.Columns.{column-length}
 use Rattle.rectclip.proofs.Arenas.{list-at}
 use Rattle.rectclip.proofs.Ranges.{set-or}

@@ -1,28 +1,26 @@
 -- The first step of `get_path`, over the work list, is the definition's for each result. Assumes nothing.
 use mathlib.Core.Path.{_≡_, refl, sym, _∙_, ap}
 use mathlib.Core.Bool.{Bool, true, false}
-use mathlib.Core.List.{List, [], _∷_}
-use Prim.Native.Nat.{ℕ, zero, suc, _+_, _*_, _-_, _<_, _≤_}
+use mathlib.Core.List.{List}
+use Prim.Native.Nat.{ℕ, suc, _+_, _*_, _-_, _<_, _≤_}
 use native.Mathlib.Omega.{arith}
 use native.Mathlib.Numerals.{add-one}
 use lib.ListN.{length}
 use lib.IntN.{ℤ}
-use lib.Dec.{eqb}
 use borrow.Author.Tests.{eq-eqb, ne-eqb}
-use Rattle.plane.specs.declared.point.Point64.{Point64}
-use Rattle.plane.specs.Basics.{if_then_else_, none, upwards}
-use Rattle.reference.specs.Arena.{Arena, next-of, prev-of, result-of, set-result}
+use Rattle.plane.specs.Basics.{none, upwards}
+use Rattle.reference.specs.Arena.{next-of, result-of, set-result}
 use Rattle.reference.specs.Arena as reference
 use Rattle.reference.specs.Tidy.{is-stub}
 use Rattle.reference.specs.Clip.{straighten, get-path}
 use Rattle.rectclip.specs.declared.arena.Sizes.{Sizes}
 use Rattle.rectclip.specs.declared.rings.Round.{Round}
-use Rattle.rectclip.specs.Arenas.{arena-at, Holds, Leaves, Marked}
+use Rattle.rectclip.specs.Arenas.{arena-at, Holds, Leaves}
 use Rattle.rectclip.specs.Stored.{points-in, Drawn}
 use Rattle.rectclip.specs.Rings.{Passed}
 use Rattle.rectclip.specs.Paths.{Started, straighten-result, straighten-results}
 use Rattle.rectclip.proofs.Stored.{points-in-length}
-use Rattle.rectclip.proofs.Unlinking.{same-arena, renamed, then-leaves}
+use Rattle.rectclip.proofs.Unlinking.{same-arena, renamed}
 
 -- ---- get_start, one law for each way
 module _ {store : List ℤ} {m : List ℕ} {s : Sizes} (op : ℕ) (d : Drawn store (s .nodes)) (h : Holds m s) where

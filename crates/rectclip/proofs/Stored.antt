@@ -1,9 +1,9 @@
 -- The points of the nodes, as the store holds them: how many there are, and what stands at a node. Assumes nothing.
-use mathlib.Core.Path.{_≡_, refl, sym, _∙_, ap}
+use mathlib.Core.Path.{_≡_, refl, sym, _∙_}
 use mathlib.Core.List.{List, [], _∷_}
-use Prim.Native.Nat.{ℕ, zero, suc, _+_, _*_, _<_, _≤_, _/_}
+use Prim.Native.Nat.{ℕ, zero, suc, _<_, _≤_}
 use native.Mathlib.Omega.{arith}
-use lib.ListN.{length, getD, take, List·getD-eq-default}
+use lib.ListN.{length, getD, take}
 use lib.Seq.{getD-take, length-take-le}
 use lib.IntN.{ℤ}
 use Rattle.plane.specs.declared.point.Point64.{Point64}

@@ -1,16 +1,15 @@
 -- One store to the work list is one store to the arena that it holds, and what it holds stays valid: a law for each leaf of arena.rt. Assumes nothing.
-use mathlib.Core.Path.{_≡_, refl, sym, _∙_, ap, subst}
+use mathlib.Core.Path.{_≡_, refl, _∙_}
 use mathlib.Core.List.{List}
-use mathlib.Core.Logic.{⊎-elim}
-use Prim.Native.Nat.{ℕ, _+_, _*_, _<_, _≤_}
+use Prim.Native.Nat.{ℕ, _+_, _<_, _≤_}
 use native.Mathlib.Omega.{arith}
 use native.Mathlib.Decide.{ℕ-discrete}
-use lib.ListN.{length, getD, length-set}
+use lib.ListN.{getD, length-set}
 use lib.Seq.{getD-set-same, getD-set-other}
 use Rattle.plane.specs.Basics.{none, push}
 use Rattle.reference.specs.Arena.{Arena, edge-list, set-next, set-prev, set-owner, set-edge, set-result, set-results, set-entry, set-edge-list}
 use Rattle.rectclip.specs.declared.arena.Sizes.{Sizes}
-use Rattle.rectclip.specs.Memory.{at, put, Room}
+use Rattle.rectclip.specs.Memory.{put}
 use Rattle.rectclip.specs.Arenas.{arena-at, Valid, Holds, Marked, Leaves, Grows, longer-list, one-result-more}
 use Rattle.rectclip.proofs.Memory.{length-put, room-put}
 use Rattle.rectclip.proofs.Columns.{column-length}

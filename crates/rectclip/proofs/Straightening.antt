@@ -1,7 +1,7 @@
 -- The first loop of `get_path` over the work list is the definition's, pass by pass. Assumes nothing.
 use mathlib.Core.Path.{_≡_, refl, sym, _∙_, ap}
 use mathlib.Core.List.{List}
-use mathlib.Core.Logic.{_⊎_, inl, inr, ⊎-elim}
+use mathlib.Core.Logic.{_⊎_, ⊎-elim}
 use Prim.Native.Nat.{ℕ, zero, suc, _*_, _-_, _<_, _≤_}
 use native.Mathlib.Omega.{arith}
 use native.Mathlib.Nat.{mul-le-mul}
@@ -9,13 +9,13 @@ use lib.ListN.{length}
 use lib.Dec.{eqb}
 use borrow.Author.Tests.{eq-eqb, ne-eqb}
 use Rattle.plane.specs.declared.point.Point64.{Point64}
-use Rattle.plane.specs.Basics.{if_then_else_, none}
+use Rattle.plane.specs.Basics.{none}
 use Rattle.reference.specs.Arena.{Arena}
 use Rattle.reference.specs.Arena as reference
 use Rattle.reference.specs.Clip.{straighten-pass, straighten}
 use Rattle.rectclip.specs.declared.arena.Sizes.{Sizes}
 use Rattle.rectclip.specs.declared.rings.Round.{Round}
-use Rattle.rectclip.specs.Arenas.{arena-at, Holds, Leaves, Marked}
+use Rattle.rectclip.specs.Arenas.{arena-at, Holds, Marked}
 use Rattle.rectclip.specs.Rings.{Passed}
 use Rattle.rectclip.proofs.Dropping.{at-nodes, or-true}
 

@@ -1,12 +1,12 @@
 -- The turns of a side over the work list are the definition's, and refusal 10 comes where it does. Assumes nothing.
-use mathlib.Core.Path.{_≡_, refl, sym, _∙_, ap, subst}
+use mathlib.Core.Path.{_≡_, refl, sym, _∙_, ap}
 use mathlib.Core.Bool.{Bool, true, false}
-use mathlib.Core.List.{List, []}
+use mathlib.Core.List.{List}
 use Prim.Native.Nat.{ℕ, zero, suc, _+_, _*_, _-_, _<_, _≤_}
 use native.Mathlib.Omega.{arith}
 use lib.ListN.{length, getD}
 use lib.IntN.{ℤ}
-use lib.Dec.{eqb, ltb}
+use lib.Dec.{ltb}
 use borrow.Author.Tests.{eq-eqb, ne-eqb, ltb-true}
 use Rattle.plane.specs.declared.point.Point64.{Point64}
 use Rattle.plane.specs.Basics.{if_then_else_, Try, refuse, ok, _>>=_}
@@ -16,9 +16,9 @@ use Rattle.reference.specs.Tidy as reference
 use Rattle.rectclip.specs.declared.arena.Sizes.{Sizes}
 use Rattle.rectclip.specs.declared.settle.Turn.{Turn}
 use Rattle.rectclip.specs.declared.tidy.Tidied.{Tidied}
-use Rattle.rectclip.specs.Arenas.{arena-at, Holds, Becomes, Space, Spare}
+use Rattle.rectclip.specs.Arenas.{arena-at, Becomes, Spare}
 use Rattle.rectclip.specs.Stored.{points-in, Drawn}
-use Rattle.rectclip.specs.Turns.{Turned, Whole, Turning, Allowing, answer, TidiedAs, Between, tidied-all}
+use Rattle.rectclip.specs.Turns.{Whole, Turning, Allowing, answer, TidiedAs, Between, tidied-all}
 use Rattle.rectclip.proofs.Spare.{list-length, spare-slots}
 use Rattle.rectclip.proofs.Becoming.{becomes-same, becomes-renamed, then-becomes}
 use Rattle.rectclip.proofs.Settling.{turn-at}

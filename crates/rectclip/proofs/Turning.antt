@@ -1,8 +1,8 @@
 -- Corners and start sides along the boundary: one turn of the loops, and the adding of a path's points. Assumes nothing.
 use mathlib.Core.Path.{_≡_, refl, sym, _∙_, ap}
 use mathlib.Core.Bool.{Bool, true, false, cond}
-use mathlib.Core.List.{List, [], _∷_, _++_, map, map-append}
-use Prim.Native.Nat.{ℕ, zero, suc, _+_, _-_, _*_, _/_, _<_, _≤_}
+use mathlib.Core.List.{List, [], _∷_, map, map-append}
+use Prim.Native.Nat.{ℕ, zero, suc, _+_, _-_, _/_, _<_, _≤_}
 use native.Mathlib.Omega.{arith}
 use native.Mathlib.Numerals.{add-one}
 use borrow.Author.Tests.{le-leb, lt-leb}
@@ -23,9 +23,9 @@ use Rattle.entry.specs.Answers.{number}
 use Rattle.rectclip.specs.declared.walk.WalkState.{WalkState}
 use Rattle.rectclip.specs.declared.walk.Step.{Step}
 use Rattle.rectclip.specs.declared.walk.Step.the-variants.{Walked, Refused}
-use Rattle.rectclip.specs.Memory.{at, put, Room, column}
+use Rattle.rectclip.specs.Memory.{at, put, column}
 use Rattle.rectclip.specs.Walking.{location, walk-of, turned, Fits, Stepped}
-use Rattle.rectclip.proofs.Memory.{length-put, room-put, at-put-field}
+use Rattle.rectclip.proofs.Memory.{room-put, at-put-field}
 use Rattle.rectclip.proofs.Columns.{column-length, column-pushed, column-other}
 use Rattle.rectclip.proofs.Coordinates.{points-length}
 use Rattle.rectclip.proofs.Walking.{step-walked, step-refused, walked-is, refused-is, Going, going-start, going-on}

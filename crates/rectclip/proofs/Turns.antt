@@ -1,7 +1,7 @@
 -- One turn of `tidy_edges` over the work list is the definition's: what regroups the rings, and each way of the turn. Assumes nothing.
 use mathlib.Core.Path.{_≡_, refl, sym, _∙_, ap, subst}
-use mathlib.Core.Bool.{Bool, true, false, not, _||_}
-use mathlib.Core.List.{List, []}
+use mathlib.Core.Bool.{Bool, true, false, not}
+use mathlib.Core.List.{List}
 use Prim.Native.Nat.{ℕ, suc, _+_, _*_, _<_, _≤_}
 use native.Mathlib.Omega.{arith}
 use lib.ListN.{length, getD, drop}
@@ -17,8 +17,8 @@ use Rattle.rectclip.specs.declared.arena.Sizes.{Sizes}
 use Rattle.rectclip.specs.declared.regroup.Four.{Four}
 use Rattle.rectclip.specs.declared.settle.Turn.{Turn}
 use Rattle.rectclip.specs.Arenas.{arena-at, Holds, Leaves, Becomes, Space, Spare}
-use Rattle.rectclip.specs.Stored.{points-in, Drawn}
-use Rattle.rectclip.specs.Turns.{Sought, four, FourIn, Fourth, joined, split, regrouped, set-roots, Settling, Turned, Settled, Whole, Groups, Rejoining, Turning}
+use Rattle.rectclip.specs.Stored.{points-in}
+use Rattle.rectclip.specs.Turns.{Sought, four, Fourth, joined, split, regrouped, set-roots, Settling, Settled, Whole, Groups, Rejoining, Turning}
 use Rattle.rectclip.proofs.Stored.{points-in-length}
 use Rattle.rectclip.proofs.Spare.{by-test, list-length}
 use Rattle.rectclip.proofs.Space.{space-less, space-fewer, space-entry, space-joined, space-split, space-roots}

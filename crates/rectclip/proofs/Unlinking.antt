@@ -2,11 +2,11 @@
 use mathlib.Core.Path.{_≡_, refl, sym, _∙_, ap}
 use mathlib.Core.List.{List}
 use mathlib.Core.Bool.{true, false}
-use Prim.Native.Nat.{ℕ, _<_}
+use Prim.Native.Nat.{ℕ}
 use lib.Dec.{eqb}
 use borrow.Author.Tests.{eq-eqb, ne-eqb}
 use Rattle.plane.specs.Basics.{none}
-use Rattle.reference.specs.Arena.{Arena, next-of, prev-of, set-next, set-prev, unlink, unlink-op, unlink-op-back}
+use Rattle.reference.specs.Arena.{Arena, next-of, prev-of, set-next, set-prev, unlink}
 use Rattle.rectclip.specs.declared.arena.Sizes.{Sizes}
 use Rattle.rectclip.specs.Arenas.{arena-at, Holds, Leaves}
 use Rattle.rectclip.specs.Rings.{Unlinked}

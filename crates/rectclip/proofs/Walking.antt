@@ -1,18 +1,18 @@
 -- Steps of the walk, one after the other: a step that went on, one that was refused, and what follows a step. Assumes nothing.
-use mathlib.Core.Path.{_≡_, refl, sym, _∙_, ap, subst}
+use mathlib.Core.Path.{_≡_, refl, _∙_, subst}
 use mathlib.Core.List.{List}
 use Prim.Native.Nat.{ℕ}
 use native.Mathlib.Omega.{arith}
 use lib.IntN.{ℤ}
 use lib.ListN.{length}
 use Rattle.plane.specs.Basics.{Try, refuse, ok, _>>=_}
-use Rattle.reference.specs.Walk.{Walk, Next}
+use Rattle.reference.specs.Walk.{Walk}
 use Rattle.entry.specs.declared.answer.Refusal.{Refusal}
 use Rattle.entry.specs.Answers.{number}
 use Rattle.rectclip.specs.declared.walk.WalkState.{WalkState}
 use Rattle.rectclip.specs.declared.walk.Step.{Step}
 use Rattle.rectclip.specs.declared.walk.Step.the-variants.{Walked, Refused}
-use Rattle.rectclip.specs.Walking.{walk-of, stepped, Fits, Stepped}
+use Rattle.rectclip.specs.Walking.{walk-of, Fits, Stepped}
 
 -- what follows an answer, and what follows a refusal
 pub on-ok : {A B : Type 0} {g : Try A} {a : A} (f : A → Try B) → ok a ≡ g → f a ≡ (g >>= f)

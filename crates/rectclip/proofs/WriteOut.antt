@@ -8,16 +8,14 @@ use native.Mathlib.Decide.{ℕ-discrete}
 use lib.ListN.{length, set, length-append, length-map}
 use lib.Seq.{sets, length-sets}
 use lib.IntN.{ℤ}
-use lib.Dec.{eqb}
 use borrow.Author.Tests.{eq-eqb, ne-eqb}
 use Rattle.plane.specs.declared.point.Point64.{Point64}
-use Rattle.plane.specs.Basics.{if_then_else_, none, upwards}
-use Rattle.plane.specs.Points.{coordinates-of}
+use Rattle.plane.specs.Basics.{none, upwards}
 use Rattle.reference.specs.Arena.{Arena, pt-of, next-of, result-of}
 use Rattle.rectclip.specs.declared.arena.Sizes.{Sizes}
 use Rattle.rectclip.specs.declared.paths.Counts.{Counts}
-use Rattle.rectclip.specs.Arenas.{arena-at, Holds}
-use Rattle.rectclip.specs.Stored.{points-in, Drawn}
+use Rattle.rectclip.specs.Arenas.{arena-at}
+use Rattle.rectclip.specs.Stored.{points-in}
 use Rattle.rectclip.specs.Paths.{nodes-from, nodes-of, nodes-read, all-nodes, coordinates-at, Reading, Read, Writing, Written, nothing-yet}
 use Rattle.rectclip.proofs.Counting.{read-none, read-some, read-cons}
 

@@ -5,8 +5,8 @@ use Prim.Native.Nat.{ℕ, zero, suc, _+_, _-_, _*_, _<_, _≤_}
 use native.Mathlib.Omega.{arith}
 use native.Mathlib.Numerals.{add-one}
 use lib.IntN.{ℤ}
-use lib.ListN.{length, getD, take, drop, set, length-append, length-drop, length-set, length-map}
-use lib.Seq.{drop-cons, take-suc, take-take, length-take-le, take-length, drop-length, drop-append-le}
+use lib.ListN.{length, take, drop, set, length-append, length-drop, length-set, length-map}
+use lib.Seq.{take-suc, take-take, length-take-le, drop-append-le}
 use Rattle.plane.specs.declared.point.Point64.{Point64}
 use Rattle.plane.specs.Points.{origin, pt-at, points-of, coordinates-of}
 use Rattle.reference.specs.Entry.{joined, filled}

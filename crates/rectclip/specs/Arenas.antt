@@ -2,7 +2,7 @@
 -- and fields 8 to 15 are the eight edge lists. `arena-at` is what the definition's Arena is here; `Valid` says that every number is in its range.
 use mathlib.Core.Path.{_≡_}
 use mathlib.Core.List.{List, [], _∷_}
-use Prim.Native.Nat.{ℕ, suc, _+_, _*_, _<_, _≤_}
+use Prim.Native.Nat.{ℕ, suc, _+_, _<_, _≤_}
 use lib.ListN.{length, getD, set}
 use lib.Dec.{eqb}
 use Rattle.plane.specs.Basics.{if_then_else_, none}

@@ -6,15 +6,13 @@ use Prim.Native.Nat.{ℕ}
 use lib.ListN.{length}
 use lib.IntN.{ℤ}
 use Rattle.plane.specs.declared.point.Point64.{Point64}
-use Rattle.plane.specs.declared.rect.Rect64.{Rect64}
 use Rattle.plane.specs.Basics.{upwards, Try, refuse, ok}
-use Rattle.reference.specs.Arena.{Arena, check-edges}
+use Rattle.reference.specs.Arena.{Arena}
 use Rattle.rectclip.specs.declared.arena.Sizes.{Sizes}
 use Rattle.rectclip.specs.declared.clipping.Clipped.{Clipped}
 use Rattle.rectclip.specs.Arenas.{arena-at, Holds, Spare}
-use Rattle.rectclip.specs.Stored.{points-in, Drawn}
+use Rattle.rectclip.specs.Stored.{Drawn}
 use Rattle.rectclip.specs.Paths.{straighten-results, nodes-read, CountedAll}
-use Rattle.rectclip.specs.Turns.{tidied-all}
 
 -- an arena may be clipped with the allowance A: each turn has room
 pub record Clipping (store : List ℤ) (m : List ℕ) (s : Sizes) (A : ℕ) : Type 0 where

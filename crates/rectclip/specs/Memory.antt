@@ -1,6 +1,5 @@
 -- The lent lists as memory. Slot i of the work list has sixteen cells, and field k of slot i is the cell 16 * i + k.
 -- The store's point i is at 2 * i, x then y.
-use mathlib.Core.Path.{_≡_}
 use mathlib.Core.List.{List, [], _∷_}
 use Prim.Native.Nat.{ℕ, zero, suc, _+_, _*_, _<_, _≤_}
 use lib.ListN.{getD, set, length}

@@ -2,20 +2,20 @@
 -- The nodes of a path stand for its points: `points-from` of the definition reads the points of `nodes-from`.
 use mathlib.Core.Path.{_≡_}
 use mathlib.Core.List.{List, [], _∷_, _++_, map}
-use Prim.Native.Nat.{ℕ, zero, suc, _+_, _*_, _<_, _≤_}
+use Prim.Native.Nat.{ℕ, zero, suc, _+_, _*_, _≤_}
 use lib.ListN.{length}
 use lib.Seq.{sets}
 use lib.IntN.{ℤ}
 use lib.Dec.{eqb}
 use Rattle.plane.specs.declared.point.Point64.{Point64}
-use Rattle.plane.specs.Basics.{if_then_else_, none, upwards}
+use Rattle.plane.specs.Basics.{if_then_else_, none}
 use Rattle.plane.specs.Points.{coordinates-of}
 use Rattle.reference.specs.Arena.{Arena, pt-of, next-of, result-of, set-result}
 use Rattle.reference.specs.Clip.{get-path}
 use Rattle.rectclip.specs.declared.arena.Sizes.{Sizes}
 use Rattle.rectclip.specs.declared.paths.Counts.{Counts}
-use Rattle.rectclip.specs.Arenas.{arena-at, Holds, Leaves, Marked}
-use Rattle.rectclip.specs.Stored.{points-in, Drawn}
+use Rattle.rectclip.specs.Arenas.{Holds, Leaves, Marked}
+use Rattle.rectclip.specs.Stored.{Drawn}
 
 -- ---- the first step
 -- the ring of result r is straightened, and the result set to its start

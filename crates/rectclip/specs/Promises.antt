@@ -2,7 +2,7 @@
 use mathlib.Core.Path.{_≡_}
 use mathlib.Core.Bool.{Bool, true, false}
 use mathlib.Core.List.{List, map}
-use Prim.Native.Nat.{ℕ, _+_, _*_, _/_, _≤_}
+use Prim.Native.Nat.{ℕ, _+_, _/_, _≤_}
 use lib.IntN.{ℤ}
 use lib.ListN.{length, take}
 use Rattle.plane.specs.declared.point.Point64.{Point64}
@@ -12,7 +12,7 @@ use Rattle.plane.specs.Limit.{all-in-limit, rect-in-limit}
 use Rattle.plane.specs.Points.{points-of, coordinates-of}
 use Rattle.plane.specs.Rectangle.{get-bounds-path}
 use Rattle.theorems.specs.Demand.{Sourced}
-use Rattle.reference.specs.Entry.{Drawing, Lent, After, joined, delivered, answered, clip-open, filled-part}
+use Rattle.reference.specs.Entry.{Drawing, Lent, After, joined, delivered, clip-open, filled-part}
 use Rattle.reference.specs.Lines.{execute-lines}
 use Rattle.reference.specs.Walk.{no-room}
 use Rattle.entry.specs.declared.answer.Answer.{Answer}

@@ -1,7 +1,7 @@
 -- What the functions of `tidy_edges` ask and leave, in the definition's words.
 use mathlib.Core.Path.{_≡_}
-use mathlib.Core.Bool.{Bool, true, false, not, _&&_}
-use mathlib.Core.List.{List, [], _∷_}
+use mathlib.Core.Bool.{Bool, not, _&&_}
+use mathlib.Core.List.{List}
 use Prim.Native.Nat.{ℕ, suc, _+_, _*_, _-_, _<_, _≤_}
 use lib.IntN.{ℤ}
 use lib.ListN.{length, getD, drop}
@@ -16,7 +16,7 @@ use Rattle.rectclip.specs.declared.regroup.Four.{Four}
 use Rattle.rectclip.specs.declared.settle.Turn.{Turn}
 use Rattle.rectclip.specs.declared.tidy.Tidied.{Tidied}
 use Rattle.rectclip.specs.Arenas.{arena-at, Holds, Becomes, Space, Spare}
-use Rattle.rectclip.specs.Stored.{points-in, Drawn}
+use Rattle.rectclip.specs.Stored.{Drawn}
 
 -- an entry that `seek` stops at
 abbrev pub is-live : Arena → ℕ → Bool

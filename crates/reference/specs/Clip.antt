@@ -1,12 +1,12 @@
 -- `RectClip64::get_path`, and `execute` for one closed path.
-use mathlib.Core.Bool.{Bool, true, false, not, _&&_, _||_}
-use mathlib.Core.List.{List, [], _∷_, _++_}
-use Prim.Native.Nat.{ℕ, zero, suc, _+_, _-_, _*_}
-use lib.ListN.{length, getD}
-use lib.Dec.{eqb, ltb, leb}
+use mathlib.Core.Bool.{Bool, not, _||_}
+use mathlib.Core.List.{List, [], _∷_}
+use Prim.Native.Nat.{ℕ, zero, suc, _-_}
+use lib.ListN.{length}
+use lib.Dec.{eqb, ltb}
 use Rattle.plane.specs.declared.point.Point64.{Point64}
 use Rattle.plane.specs.declared.rect.Rect64.{Rect64}
-use Rattle.plane.specs.Basics.{if_then_else_, none, push, is-nil, upwards, Try, refuse, ok, _>>=_}
+use Rattle.plane.specs.Basics.{if_then_else_, none, is-nil, upwards, Try, ok, _>>=_}
 use Rattle.plane.specs.Rectangle.{is-empty, intersects, contains-rect, get-bounds-path}
 use Rattle.reference.specs.Walk.{Walked, walk-closed}
 use Rattle.reference.specs.Arena.{Arena, pt-of, next-of, prev-of, result-of, set-result, ring, add-to-edge, unlink, unlink-op, is-flat, Round, check-edges}

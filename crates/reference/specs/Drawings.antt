@@ -3,9 +3,9 @@
 use mathlib.Core.Path.{_≡_, refl}
 use mathlib.Core.Bool.{Bool, true, false}
 use mathlib.Core.List.{List, [], _∷_, _++_, map}
-use Prim.Native.Nat.{ℕ, suc, _-_, _*_}
+use Prim.Native.Nat.{ℕ, _-_}
 use lib.ListN.{replicate}
-use lib.IntN.{ℤ, pos, negsuc, negℤ}
+use lib.IntN.{ℤ, pos, negℤ}
 use Rattle.plane.specs.declared.rect.Rect64.{Rect64}
 use Rattle.plane.specs.Basics.{if_then_else_}
 use Rattle.plane.specs.Intersection.{at-end, get-segment-intersection, edge-intersection, side-intersection, get-intersection}
@@ -16,7 +16,7 @@ use Rattle.plane.specs.Segment.{determinant, numerator, fraction, workingOf, cr
 use Rattle.plane.specs.Signs.{cross-product-sign, is-collinear, cross-product-is-negative, is-clockwise-dir}
 use Rattle.reference.specs.Arena.{set-owner, set-edge, set-next, set-prev, set-results, set-edge-list, ring, unlink, add-to-edge, struck, uncouple-edge, own-from, set-new-owner, drop-collinear-pass, drop-collinear, assign-side, assign-edges, check-ring, check-from, check-edges}
 use Rattle.reference.specs.Clip.{enter-all, arena-of, straighten-pass, straighten, points-from, get-path, get-paths, clip-walked, execute}
-use Rattle.reference.specs.Entry.{sheet-refusal, early-refusal, delivered, answered, clip-closed, clip-open, filled-part, is-present, Lent, After, Outcome, refused, drawn}
+use Rattle.reference.specs.Entry.{sheet-refusal, early-refusal, delivered, answered, clip-closed, clip-open, filled-part, is-present, Lent, Outcome, refused, drawn}
 use Rattle.reference.specs.Lines.{first-off-edge, line-through, line-cross, line-from, line-passes, line-walk-from, walk-open, pieces, longer-than-one, execute-lines}
 use Rattle.reference.specs.Tidy.{seek, relink, regroup, keep-one, keep-both, keep-each, settle, rejoin, one-turn, turns-from, tidy-edges}
 use Rattle.reference.specs.Walk.{add, add-all, push-start-loc, next-side, next-outside, add-corner-prev-curr, add-corner-loc, add-corners, push-start-locs, next-inside, get-next-location, remain-outside, enter, pass-to, pass-through, leave, cross-boundary, add-round, retrace, close-outline, last-off, pass-from, passes, surround, after-while, walk-from, walk-closed, walked-outline}

@@ -1,16 +1,15 @@
 -- The entries: which refusal comes first, what a result gives, and what every lent list holds afterwards.
-use mathlib.Core.Bool.{Bool, true, false, not, _&&_, _||_}
+use mathlib.Core.Bool.{not, _&&_, _||_}
 use mathlib.Core.List.{List, [], _∷_, _++_, map}
-use Prim.Native.Nat.{ℕ, zero, suc, _+_, _-_, _*_, _/_, _%_, _^_}
-use lib.ListN.{length, getD, take, drop, replicate}
+use Prim.Native.Nat.{ℕ, _+_, _-_, _*_, _/_, _%_}
+use lib.ListN.{length, take, drop, replicate}
 use lib.Dec.{eqb, ltb, leb}
-use lib.IntN.{ℤ, pos, negsuc, natAbs, _-ℤ_}
-use lib.Signed.{ltZ}
+use lib.IntN.{ℤ, pos}
 use Rattle.plane.specs.declared.point.Point64.{Point64}
 use Rattle.plane.specs.declared.rect.Rect64.{Rect64}
 use Rattle.plane.specs.Basics.{if_then_else_, Try, refuse, ok, _>>=_}
-use Rattle.plane.specs.Points.{points-of, coordinates-of, point}
-use Rattle.plane.specs.Limit.{in-limit, all-in-limit, rect-in-limit}
+use Rattle.plane.specs.Points.{points-of, coordinates-of}
+use Rattle.plane.specs.Limit.{all-in-limit, rect-in-limit}
 use Rattle.plane.specs.Rectangle.{is-empty, intersects, get-bounds-path}
 use Rattle.reference.specs.Walk.{no-room}
 use Rattle.reference.specs.Clip.{execute}

@@ -1,13 +1,13 @@
 -- The exported entries of document 01: 'little-endian signed 32-bit coordinates as bytes, with W = A = 256 and paths up to 128 points'.
 -- 'Coordinates and path lengths come back in two lent byte lists, 4 little-endian bytes a number, and paths, points and turns likewise in a third'.
-use mathlib.Core.Bool.{Bool, true, false, not, _&&_, _||_}
+use mathlib.Core.Bool.{Bool, not, _||_}
 use mathlib.Core.List.{List, [], _∷_, _++_, map}
-use Prim.Native.Nat.{ℕ, zero, suc, _+_, _-_, _*_, _/_, _%_, _^_}
+use Prim.Native.Nat.{ℕ, suc, _+_, _-_, _*_, _/_, _%_, _^_}
 use lib.ListN.{length}
 use lib.Dec.{eqb, ltb}
 use lib.IntN.{ℤ, pos, negsuc, _-ℤ_}
 use Rattle.plane.specs.declared.rect.Rect64.{Rect64}
-use Rattle.plane.specs.Basics.{if_then_else_, Try, refuse, ok, _>>=_}
+use Rattle.plane.specs.Basics.{if_then_else_, refuse, ok, _>>=_}
 use Rattle.plane.specs.Points.{points-of, coordinates-of}
 use Rattle.reference.specs.Walk.{no-room}
 use Rattle.reference.specs.Lines.{execute-lines}

@@ -1,12 +1,12 @@
 -- `tidy_edges`, with its turns counted.
-use mathlib.Core.Bool.{Bool, true, false, not, _&&_, _||_, Bool·beq}
-use mathlib.Core.List.{List, [], _∷_, _++_}
+use mathlib.Core.Bool.{Bool, not, _&&_, _||_, Bool·beq}
+use mathlib.Core.List.{List, [], _∷_}
 use Prim.Native.Nat.{ℕ, zero, suc, _+_, _-_, _*_}
-use lib.ListN.{length, getD, set, drop}
+use lib.ListN.{length, getD, drop}
 use lib.Dec.{eqb, ltb, leb}
 use lib.Signed.{ltZ}
 use Rattle.plane.specs.declared.point.Point64.{Point64}
-use Rattle.plane.specs.Basics.{if_then_else_, none, push, Try, refuse, ok, _>>=_}
+use Rattle.plane.specs.Basics.{if_then_else_, none, push, Try, refuse, ok}
 use Rattle.plane.specs.Points.{same-point}
 use Rattle.plane.specs.Signs.{has-horz-overlap, has-vert-overlap}
 use Rattle.reference.specs.Arena.{Arena, pt-of, owner-of, next-of, prev-of, edge-list, set-next, set-prev, set-results, set-result, set-entry, add-to-edge, uncouple-edge, set-new-owner}

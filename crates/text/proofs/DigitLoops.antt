@@ -1,11 +1,11 @@
 -- The loops that count a number's digits and put them from the last on are the definition's `places` and `last-digits`. Assumes nothing.
 use mathlib.Core.Path.{_≡_, refl, sym, _∙_, ap, subst}
 use mathlib.Core.Bool.{Bool, true, false, _&&_}
-use mathlib.Core.List.{List, [], _∷_, _++_}
+use mathlib.Core.List.{List, [], _∷_}
 use Prim.Native.Nat.{ℕ, zero, suc, _+_, _-_, _/_, _%_, _<_, _≤_}
 use native.Mathlib.Omega.{arith}
 use lib.ListN.{length, set, length-set, length-append}
-use lib.Dec.{eqb, ltb}
+use lib.Dec.{ltb}
 use lib.Seq.{sets}
 use borrow.Author.Tests.{eq-eqb, ne-eqb, ltb-true, ltb-false}
 use Rattle.text.specs.Decimal.{places, last-digits}

@@ -14,8 +14,7 @@ use mir.Syntax.{w64}
 use mir.Val.{SFits}
 use Rattle.plane.specs.Basics.{if_then_else_, is-nil}
 use Rattle.text.specs.declared.digits.Spelling.{Spelling}
-use Rattle.text.specs.declared.number.Entry.{Entry}
-use Rattle.text.specs.declared.number.Entry.the-variants.{Missing, Whole}
+use Rattle.text.specs.declared.number.Entry.the-variants.{Missing}
 use Rattle.text.specs.Decimal.{Field, no-number, number, field, digits-of, all-digits, value-from}
 use Rattle.text.specs.Scanning.{Spelled, front, ends-at, entry-of, signed-entry, digits-entry, entry-at}
 use Rattle.text.proofs.FieldDigits.{lead, ends-where, field-ends, field-broken, field-read}

@@ -1,20 +1,16 @@
 -- A field's digits as the loop reads them are the field of the definition: the bytes before the next comma. Assumes nothing.
 use mathlib.Core.Path.{_≡_, refl, sym, _∙_, ap}
-use mathlib.Core.Bool.{Bool, true, false, not, _&&_, _||_}
-use mathlib.Core.List.{List, [], _∷_, _++_}
-use mathlib.Core.Logic.{_⊎_, inl, inr}
-use Prim.Native.Nat.{ℕ, zero, suc, _+_, _-_, _*_, _<_, _≤_}
+use mathlib.Core.Bool.{Bool, true, false, _&&_}
+use mathlib.Core.List.{List, [], _∷_}
+use Prim.Native.Nat.{ℕ, _+_, _-_, _*_, _<_, _≤_}
 use native.Mathlib.Omega.{arith}
-use native.Mathlib.Numerals.{add-one}
-use lib.ListN.{length, drop, getD}
+use lib.ListN.{length, drop}
 use lib.Dec.{eqb, leb, ltb}
 use lib.IntN.{ℤ, pos, negℤ}
-use borrow.Author.Tests.{leb-true, leb-false, ltb-true, ltb-false, lt-ltb, le-ltb, le-leb, lt-leb, eqb-true, ne-eqb}
-use Rattle.plane.specs.Basics.{if_then_else_, is-nil, Try, refuse, ok, _>>=_}
-use Rattle.text.specs.Decimal.{Field, no-number, number, field, digits-of, is-digit, all-digits, value-from}
-use Rattle.text.specs.Reading.{put-first, fields, numbers}
-use Rattle.text.specs.Scanning.{CAP, digit-step, Digit, spell, front, ends-at, entry-of, signed-entry, digits-entry, entry-at}
-use Rattle.text.specs.declared.number.Entry.{Entry}
+use borrow.Author.Tests.{leb-true, leb-false, ltb-true, ltb-false, lt-ltb, le-ltb, lt-leb, ne-eqb}
+use Rattle.plane.specs.Basics.{if_then_else_, is-nil}
+use Rattle.text.specs.Decimal.{no-number, number, digits-of, is-digit, all-digits, value-from}
+use Rattle.text.specs.Scanning.{CAP, digit-step, Digit, spell, front, ends-at, entry-of, signed-entry, digits-entry}
 use Rattle.text.specs.declared.number.Entry.the-variants.{Missing, Whole}
 use Rattle.text.proofs.Spelling.{digit-from}
 

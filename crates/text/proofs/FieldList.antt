@@ -2,19 +2,17 @@
 use mathlib.Core.Path.{_≡_, refl, sym, _∙_, ap}
 use mathlib.Core.Bool.{Bool, true, false}
 use mathlib.Core.List.{List, [], _∷_}
-use Prim.Native.Nat.{ℕ, zero, suc, _+_, _<_, _≤_}
+use Prim.Native.Nat.{ℕ, suc, _+_, _<_, _≤_}
 use native.Mathlib.Omega.{arith}
 use native.Mathlib.Numerals.{add-one}
-use lib.ListN.{length, drop, getD, set, length-set, length-drop, drop-of-length-le}
+use lib.ListN.{length, drop, set, length-set, length-drop, drop-of-length-le}
 use lib.Seq.{sets, drop-cons, drop-drop}
 use lib.Dec.{eqb}
 use lib.IntN.{ℤ}
 use mir.Syntax.{w64}
 use mir.Val.{SFits}
 use Rattle.plane.specs.Basics.{if_then_else_, Try, refuse, ok, _>>=_}
-use Rattle.text.specs.declared.number.Entry.{Entry}
 use Rattle.text.specs.declared.number.Entry.the-variants.{Missing, Whole}
-use Rattle.text.specs.declared.fields.Numbers.{Numbers}
 use Rattle.text.specs.declared.fields.Numbers.the-variants.{Unreadable, Count}
 use Rattle.text.specs.Decimal.{Field, no-number, number, field}
 use Rattle.text.specs.Reading.{put-first, fields, numbers}

@@ -2,22 +2,21 @@
 use mathlib.Core.Path.{_≡_, refl, sym, _∙_, ap, subst}
 use mathlib.Core.Bool.{Bool, true, false}
 use mathlib.Core.List.{List, [], _∷_}
-use Prim.Native.Nat.{ℕ, zero, suc, _+_, _<_, _≤_}
+use Prim.Native.Nat.{ℕ, _+_, _<_, _≤_}
 use native.Mathlib.Omega.{arith}
 use lib.ListN.{length, drop, getD}
-use lib.Dec.{eqb, ltb}
+use lib.Dec.{eqb}
 use lib.IntN.{ℤ, pos}
 use lib.Seq.{sets}
 use borrow.Author.Tests.{eqb-true, eq-eqb, ne-eqb, lt-ltb, le-ltb}
 use Rattle.plane.specs.Basics.{if_then_else_, Try, refuse, ok, _>>=_}
 use Rattle.plane.specs.Rectangle.{rect}
-use Rattle.text.specs.declared.fields.Numbers.{Numbers}
 use Rattle.text.specs.declared.fields.Numbers.the-variants.{Count}
 use Rattle.text.specs.declared.fields.Numbers.the-variants as counts
 use Rattle.text.specs.declared.reading.Request.{Request as Answer}
 use Rattle.text.specs.declared.reading.Request.the-variants.{Unreadable, Rectangle, Path}
 use Rattle.text.specs.Decimal.{Field, no-number, number, field}
-use Rattle.text.specs.Reading.{Request, unreadable, rectangle, path, rectangle-of, put-first, fields, numbers, asked, asked-by, request}
+use Rattle.text.specs.Reading.{Request, unreadable, rectangle-of, put-first, fields, numbers, asked, asked-by, request}
 use Rattle.text.specs.Scanning.{counted, leading, behind, leading-behind, path-asked, rectangle-asked}
 use Rattle.text.specs.Asked.{Asks, answer, led-by}
 use Rattle.text.proofs.Stores.{sets-lead}

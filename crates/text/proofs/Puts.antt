@@ -2,7 +2,7 @@
 use mathlib.Core.Path.{_≡_, refl, sym, _∙_, ap, subst}
 use mathlib.Core.Bool.{Bool, true, false}
 use mathlib.Core.List.{List, [], _∷_, _++_, append-assoc}
-use Prim.Native.Nat.{ℕ, zero, suc, _+_, _-_, _<_, _≤_}
+use Prim.Native.Nat.{ℕ, suc, _+_, _-_, _<_, _≤_}
 use native.Mathlib.Omega.{arith}
 use native.Mathlib.Numerals.{add-one}
 use lib.ListN.{length, drop, getD, set, length-set, length-append, drop-of-length-le}
@@ -12,7 +12,6 @@ use lib.Signed.{ltZ}
 use lib.Seq.{sets, length-sets, drop-cons}
 use borrow.Author.Tests.{ltb-true, le-leb, lt-leb, leb-true, leb-false}
 use Rattle.plane.specs.Basics.{if_then_else_}
-use Rattle.text.specs.declared.numbers.Room.{Room}
 use Rattle.text.specs.declared.numbers.Room.the-variants.{Full, Left}
 use Rattle.text.specs.Decimal.{decimal, signed-decimal, last-digits}
 use Rattle.text.specs.Printing.{comma-numbers, line-of}

@@ -1,15 +1,14 @@
 -- The loop over a line's digits is the definition's `spell`, a byte at a time. Assumes nothing.
 use mathlib.Core.Path.{_≡_, refl, sym, _∙_, ap}
 use mathlib.Core.Bool.{Bool, true, false, _&&_}
-use mathlib.Core.List.{List, [], _∷_}
-use Prim.Native.Nat.{ℕ, suc, _+_, _<_, _≤_}
+use mathlib.Core.List.{List}
+use Prim.Native.Nat.{ℕ, _+_, _<_, _≤_}
 use native.Mathlib.Omega.{arith}
 use native.Mathlib.Numerals.{add-one}
 use lib.ListN.{length, drop, getD, drop-of-length-le}
 use lib.Seq.{drop-cons}
 use lib.Dec.{leb}
 use borrow.Author.Tests.{leb-true}
-use Rattle.text.specs.declared.digits.Spelling.{Spelling}
 use Rattle.text.specs.Decimal.{is-digit}
 use Rattle.text.specs.Scanning.{digit-step, spell, Spelled, Digit}
 

@@ -1,10 +1,9 @@
 -- Laws of runs of stores, `sets`: one run behind another, one store more at either end, and a run past the list's end. Assumes nothing.
 use mathlib.Core.Path.{_≡_, refl, sym, _∙_, ap}
 use mathlib.Core.List.{List, [], _∷_, _++_}
-use Prim.Native.Nat.{ℕ, zero, suc, _+_, _<_, _≤_}
+use Prim.Native.Nat.{ℕ, suc, _+_, _≤_}
 use native.Mathlib.Omega.{arith}
-use native.Mathlib.Numerals.{add-one}
-use lib.ListN.{length, take, drop, set, length-set, length-append}
+use lib.ListN.{length, take, drop, set}
 use lib.Seq.{sets, sets-eq, set-out, set-comm, take-nil}
 
 module _ {A : Type 0} where

@@ -1,15 +1,15 @@
 -- The reading rules case by case, and document 01's example, by computation.
 use mathlib.Core.Path.{_≡_, refl}
-use mathlib.Core.Bool.{Bool, true, false}
-use mathlib.Core.List.{List, [], _∷_, _++_, map}
+use mathlib.Core.Bool.{true, false}
+use mathlib.Core.List.{List, [], _∷_, _++_}
 use Prim.Native.Nat.{ℕ}
 use lib.ListN.{replicate}
-use lib.IntN.{ℤ, pos, negsuc}
+use lib.IntN.{pos, negsuc}
 use Rattle.plane.specs.Points.{point}
 use Rattle.plane.specs.Rectangle.{rect}
 use Rattle.text.specs.Decimal.{digits-of, field, decimal, signed-decimal}
 use Rattle.text.specs.Reading.{Request, unreadable, rectangle, path, asked, request}
-use Rattle.text.specs.Printing.{rectangle-line, refusal-line, path-lines}
+use Rattle.text.specs.Printing.{refusal-line, path-lines}
 
 -- `R,0,0,100,100`
 abbrev owner : List ℕ

@@ -1,6 +1,6 @@
 -- What the private functions that write a line answer. The definitions that the public ones cite are in Decimal, Printing and Written.
 use mathlib.Core.Path.{_≡_}
-use mathlib.Core.List.{List, [], _∷_}
+use mathlib.Core.List.{List}
 use Prim.Native.Nat.{ℕ, _+_, _-_, _≤_}
 use lib.ListN.{length}
 use lib.Dec.{leb}

@@ -1,14 +1,14 @@
 -- What a line of the clip program's input asks, of document 01's section 'The clip program'. A line is its bytes, line feed left out.
-use mathlib.Core.Bool.{Bool, true, false, not, _&&_, _||_}
-use mathlib.Core.List.{List, [], _∷_, _++_}
-use Prim.Native.Nat.{ℕ, zero, suc}
+use mathlib.Core.Bool.{Bool, true, false}
+use mathlib.Core.List.{List, [], _∷_}
+use Prim.Native.Nat.{ℕ}
 use lib.ListN.{length}
 use lib.Dec.{eqb, ltb}
 use lib.IntN.{ℤ}
 use Rattle.plane.specs.Basics.{if_then_else_, Try, refuse, ok, _>>=_}
 use Rattle.plane.specs.Rectangle.{rect}
 use Rattle.plane.specs.declared.rect.Rect64.{Rect64}
-use Rattle.text.specs.Decimal.{Field, no-number, number, field}
+use Rattle.text.specs.Decimal.{no-number, number, field}
 
 -- 'lines up to 4,096 bytes, line feed not counted'
 abbrev pub MAX-LINE : ℕ

@@ -1,6 +1,6 @@
 -- What the private functions that read a line answer, step by step. The definitions that the public ones cite are in Decimal and Reading.
 use mathlib.Core.Path.{_≡_}
-use mathlib.Core.Bool.{Bool, true, false}
+use mathlib.Core.Bool.{Bool, true}
 use mathlib.Core.List.{List, [], _∷_}
 use Prim.Native.Nat.{ℕ, _+_, _-_, _*_, _≤_}
 use lib.ListN.{length, drop}

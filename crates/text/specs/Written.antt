@@ -1,6 +1,6 @@
 -- What the functions that write a line promise: the line at the front of the lent list and the rest as it came, where the list can hold the line.
 use mathlib.Core.Path.{_≡_, refl, ap}
-use mathlib.Core.Bool.{Bool, true, false}
+use mathlib.Core.Bool.{Bool}
 use mathlib.Core.List.{List, [], _∷_, _++_}
 use Prim.Native.Nat.{ℕ, _+_, _/_, _≤_}
 use lib.ListN.{length, drop}

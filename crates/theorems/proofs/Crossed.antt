@@ -1,11 +1,11 @@
 -- A segment that passes an edge of the rectangle, parallel to an axis, has a crossing with it, at a point that is less than 1 + 2 ^ -25 away from the exact one on each axis. Assumes nothing.
 use mathlib.Core.Path.{_≡_, refl, sym, ap, _∙_, subst}
 use Prim.Native.Nat.{ℕ, _*_, _≤_, _<_, zero-le}
-use native.Mathlib.Nat.{le-trans, lt-of-le-of-lt, mul-pos}
+use native.Mathlib.Nat.{lt-of-le-of-lt, mul-pos}
 use mathlib.Core.Bool.{Bool, false, cond}
 use lib.IntN.{ℤ, pos, negℤ, natAbs, _-ℤ_, _*ℤ_, *ℤ-comm}
 use lib.Ieee.{Float, binary64, round, eq, le}
-use Rattle.rounding.specs.Coordinate.{isNegative, Crosses, Limit, difference, zeroF, oneF, coordinate}
+use Rattle.rounding.specs.Coordinate.{isNegative, Crosses, difference, zeroF, oneF, coordinate}
 use Rattle.rounding.proofs.Whole.{Is}
 use Rattle.rounding.proofs.Exact.{crosses-sign, crosses-lt, quotient, size-mul, size-neg, cross-is, difference-is, difference-small, left-product, right-product, level-product, neg-difference, none}
 use Rattle.rounding.proofs.Nearby.{coordinate-near}

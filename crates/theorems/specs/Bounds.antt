@@ -2,9 +2,9 @@
 -- Passes, Straightens, Drops, Scans (all twelve). That a call goes round the corners to a side only is the subject of CornerLoops, that the
 -- nodes are a ring wherever it goes round them of LoopsEnd and Rings.
 use mathlib.Core.Path.{_≡_}
-use mathlib.Core.Bool.{Bool, true, false}
+use mathlib.Core.Bool.{Bool, false}
 use mathlib.Core.List.{List, [], _∷_}
-use Prim.Native.Nat.{ℕ, zero, suc, _+_, _*_, _<_, _≤_}
+use Prim.Native.Nat.{ℕ, _+_, _*_, _<_, _≤_}
 use lib.ListN.{length}
 use lib.Dec.{T, eqb}
 use lib.IntN.{ℤ}
@@ -14,11 +14,11 @@ use Rattle.plane.specs.declared.location.Location.{Location}
 use Rattle.plane.specs.declared.location.Location.the-variants.{Inside}
 use Rattle.plane.specs.Basics.{none}
 use Rattle.plane.specs.Polygon.{Scan, first-off, skipped, scan-loop}
-use Rattle.plane.specs.Locations.{same-location, is-inside}
+use Rattle.plane.specs.Locations.{is-inside}
 use Rattle.plane.specs.Rectangle.{is-empty}
 use Rattle.reference.specs.Walk.{Walk, nothing-yet, add-corners, push-start-locs, Next, State, passes}
 use Rattle.reference.specs.Lines.{line-passes}
-use Rattle.reference.specs.Arena.{Arena, next-of, prev-of, Round, own-from, drop-collinear, assign-edges}
+use Rattle.reference.specs.Arena.{Arena, next-of, prev-of, own-from, drop-collinear, assign-edges}
 use Rattle.reference.specs.Clip.{straighten, points-from}
 use Rattle.plane.specs.Points.{points-of}
 use Rattle.plane.specs.Limit.{rect-in-limit, all-in-limit}

@@ -4,13 +4,13 @@ use mathlib.Core.Path.{_≡_}
 use mathlib.Core.Bool.{Bool, true, false, not, _||_}
 use mathlib.Core.Logic.{_⊎_}
 use mathlib.Core.List.{List, [], _∷_}
-use Prim.Native.Nat.{ℕ, zero, suc, _+_, _-_, _*_}
+use Prim.Native.Nat.{ℕ, zero, suc, _-_}
 use lib.ListN.{length, getD, drop}
 use lib.Dec.{T, eqb, ltb, leb}
 use lib.IntN.{ℤ}
 use Rattle.plane.specs.declared.point.Point64.{Point64}
 use Rattle.plane.specs.declared.rect.Rect64.{Rect64}
-use Rattle.plane.specs.Basics.{if_then_else_, none, push, upwards, Try, ok, _>>=_}
+use Rattle.plane.specs.Basics.{if_then_else_, none, push, upwards, ok, _>>=_}
 use Rattle.plane.specs.Rectangle.{is-empty}
 use Rattle.reference.specs.Walk.{Walked, walk-closed}
 use Rattle.reference.specs.Arena.{Arena, next-of, owner-of, result-of, edge-list, set-results, set-result, Round, drop-collinear, check-ring, check-edges}

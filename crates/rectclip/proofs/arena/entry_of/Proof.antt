@@ -1,8 +1,8 @@
 -- `rectclip::arena::entry_of` meets its contract: the cell read is the list's entry.
 use Prim.Native.Nat.{_+_}
-use mathlib.Core.Path.{_≡_, sym, _∙_, ap}
+use mathlib.Core.Path.{sym, _∙_, ap}
 use native.Mathlib.Omega.{arith}
-use lib.ListN.{getD, length}
+use lib.ListN.{getD}
 use Rattle.plane.specs.Basics.{none}
 use Rattle.rectclip.proofs.Columns.{column-at}
 use Rattle.rectclip.proofs.Arenas.{list-at}

@@ -1,5 +1,4 @@
 -- `add_corner_loc` meets its contract, by `add`'s.
-use mathlib.Core.Path.{refl, sym, _∙_}
 use Rattle.rectclip.proofs.Limits.{close-corner}
 use borrow.Author.Needs.{needs}
 use Rattle.rectclip.proofs.corners.add_corner_loc.Statement.{statement}

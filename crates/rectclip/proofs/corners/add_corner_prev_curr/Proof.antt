@@ -1,5 +1,5 @@
 -- `add_corner_prev_curr` meets its contract, by `add`'s.
-use mathlib.Core.Path.{refl, sym, _∙_}
+use mathlib.Core.Path.{sym, _∙_}
 use Rattle.rectclip.proofs.Limits.{close-corner}
 use Rattle.reference.specs.Walk.{add-corner-prev-curr}
 use borrow.Author.Needs.{needs}

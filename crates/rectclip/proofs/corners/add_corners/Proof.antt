@@ -1,6 +1,6 @@
 -- `add_corners` meets its contract: each turn adds a corner, until the walk has come to `loc`.
-use mathlib.Core.Path.{refl, sym, _∙_}
-use Rattle.rectclip.proofs.Turning.{RoundGoing, Round, corner-round, side-round, sides-any, round-start, round-lost, round-met, round-again, round-done}
+use mathlib.Core.Path.{_∙_}
+use Rattle.rectclip.proofs.Turning.{RoundGoing, corner-round, round-start, round-lost, round-met, round-again, round-done}
 use native.Mathlib.Omega.{arith}
 use Prim.Native.Nat.{_/_}
 use Rattle.reference.specs.Walk.{no-room, add-corners}

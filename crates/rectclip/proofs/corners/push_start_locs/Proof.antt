@@ -1,6 +1,6 @@
 -- `push_start_locs` meets its contract: each turn makes a side a start side, until the walk has come to `loc`.
-use mathlib.Core.Path.{refl, sym, _∙_}
-use Rattle.rectclip.proofs.Turning.{RoundGoing, Round, corner-round, side-round, sides-any, round-start, round-lost, round-met, round-again, round-done}
+use mathlib.Core.Path.{refl, _∙_}
+use Rattle.rectclip.proofs.Turning.{RoundGoing, side-round, sides-any, round-start, round-lost, round-met, round-again, round-done}
 use native.Mathlib.Omega.{arith}
 use Prim.Native.Nat.{_/_}
 use Rattle.plane.specs.Rectangle.{no-bounds}

@@ -1,7 +1,7 @@
 -- `rectclip::edges::assign_edges` meets its contract: the loop goes round as the definition does.
 use native.Mathlib.Omega.{arith}
 use borrow.Author.Needs.{needs}
-use mathlib.Core.Path.{sym, _∙_}
+use mathlib.Core.Path.{_∙_}
 use Rattle.rectclip.proofs.EdgeLists.{Assigned, assigned-start, assigned-may, assigned-again, assigned-stop, assigned-out}
 use Rattle.rectclip.proofs.edges.assign_edges.Statement.{statement}
 use Rattle.rectclip.proofs.edges.assign_edges.Tie as tie

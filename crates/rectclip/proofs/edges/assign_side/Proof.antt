@@ -1,7 +1,6 @@
 -- `rectclip::edges::assign_side` meets its contract, one law for each way.
 use native.Mathlib.Omega.{arith}
 use mathlib.Core.Path.{sym, _∙_}
-use Rattle.rectclip.specs.Stored.{points-in}
 use Rattle.rectclip.proofs.Becoming.{enters-same, enters-renamed}
 use Rattle.rectclip.proofs.EdgeLists.{may-enter, assign-none, assign-one, assign-both}
 use borrow.Author.Needs.{needs}

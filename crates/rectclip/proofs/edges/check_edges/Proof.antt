@@ -1,6 +1,5 @@
 -- `rectclip::edges::check_edges` meets its contract: the results in their order.
 use native.Mathlib.Omega.{arith}
-use mathlib.Core.Path.{sym, _∙_}
 use Prim.Native.Nat.{_-_}
 use Rattle.rectclip.proofs.Checking.{Checked, checked-start, checked-may, checked-again, checked-all}
 use Rattle.rectclip.proofs.edges.check_edges.Statement.{statement}

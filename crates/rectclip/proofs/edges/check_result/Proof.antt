@@ -1,5 +1,4 @@
 -- `rectclip::edges::check_result` meets its contract, one law for each way.
-use mathlib.Core.Path.{sym, _∙_}
 use Rattle.rectclip.proofs.Checking.{result-none, result-passing, result-dropped, result-may, result-assigned}
 use mathlib.Core.Path.{refl}
 use borrow.Author.Needs.{needs}

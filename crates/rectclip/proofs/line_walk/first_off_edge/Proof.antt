@@ -1,5 +1,5 @@
 -- `first_off_edge` meets its contract: the search from point `i` on is the search from the second on.
-use mathlib.Core.Path.{refl, sym, _∙_}
+use mathlib.Core.Path.{refl}
 use Prim.Native.Nat.{_-_}
 use Rattle.rectclip.proofs.Passing.{Seeking, seek-found, seek-again, seek-ends}
 use borrow.Author.Needs.{needs}

@@ -1,9 +1,9 @@
 -- `first_point` meets its contract: from inside the first point is added to nothing.
-use mathlib.Core.Path.{refl, sym, _∙_}
+use mathlib.Core.Path.{sym, _∙_}
 use Prim.Native.Nat.{_/_}
 use lib.ListN.{length}
-use Rattle.plane.specs.Points.{points-of, pt-at}
-use Rattle.reference.specs.Walk.{no-room, add, add-all}
+use Rattle.plane.specs.Points.{points-of}
+use Rattle.reference.specs.Walk.{no-room, add}
 use mathlib.Core.Bool.{false}
 use Rattle.rectclip.proofs.Limits.{path-limited}
 use Rattle.rectclip.proofs.Reach.{reached}

@@ -1,5 +1,5 @@
 -- `line_cross` meets its contract: entering, passing right through, or exiting.
-use mathlib.Core.Path.{refl, sym, _∙_}
+use mathlib.Core.Path.{sym, _∙_}
 use borrow.Author.Tests.{not-true, not-false}
 use Rattle.rectclip.proofs.Crossing.{entered, passed, exited}
 use borrow.Author.Needs.{needs}

@@ -1,5 +1,4 @@
 -- `line_from` meets its contract: past the last point, no crossing, or a crossing.
-use mathlib.Core.Path.{refl, sym, _∙_}
 use Rattle.rectclip.proofs.Limits.{path-limited, searches}
 use Rattle.rectclip.proofs.Reach.{reached}
 use Prim.Native.Nat.{_-_}

@@ -1,5 +1,4 @@
 -- `line_pass` meets its contract: `get_next_location`, and what follows it.
-use mathlib.Core.Path.{refl, sym, _∙_}
 use native.Mathlib.Omega.{arith}
 use Prim.Native.Nat.{_/_}
 use lib.ListN.{length}

@@ -1,5 +1,5 @@
 -- `line_passes` meets its contract: the passes that are left now are those that there were.
-use mathlib.Core.Path.{refl, sym, _∙_}
+use mathlib.Core.Path.{_∙_}
 use native.Mathlib.Omega.{arith}
 use Rattle.rectclip.proofs.Passing.{PassesGoing, passes-start, passes-past, passes-lost, passes-again, passes-done}
 use borrow.Author.Needs.{needs}

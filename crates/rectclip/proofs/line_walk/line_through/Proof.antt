@@ -1,6 +1,5 @@
 -- `line_through` meets its contract: the second search, and two points added.
-use mathlib.Core.Path.{refl, sym, _∙_}
-use Rattle.rectclip.proofs.Limits.{path-limited, searches}
+use Rattle.rectclip.proofs.Limits.{searches}
 use Rattle.rectclip.proofs.Reach.{reached}
 use Rattle.rectclip.proofs.Crossing.{through-none, through-stop, through-go}
 use borrow.Author.Needs.{needs}

@@ -1,10 +1,9 @@
 -- `line_walk` meets its contract: short paths, a first point off the edges, and one on them.
-use mathlib.Core.Path.{refl, sym, _∙_}
+use mathlib.Core.Path.{sym, _∙_}
 use Prim.Native.Nat.{_/_}
 use lib.ListN.{length}
-use Rattle.plane.specs.Points.{points-of, pt-at}
-use Rattle.reference.specs.Walk.{no-room, add, add-all}
-use mathlib.Core.Bool.{false}
+use Rattle.plane.specs.Points.{points-of}
+use Rattle.reference.specs.Walk.{no-room, add-all}
 use native.Mathlib.Omega.{arith}
 use Rattle.rectclip.proofs.Opening.{fits-fresh, from-fresh, fresh-walked, open-short, open-off, open-edges, open-inside, open-outside, step-by}
 use borrow.Author.Needs.{needs}

@@ -1,5 +1,4 @@
 -- `line_walk_from` meets its contract: the first point, and the passes.
-use mathlib.Core.Path.{refl, sym, _∙_}
 use native.Mathlib.Omega.{arith}
 use Rattle.rectclip.proofs.Opening.{walk-lost, walk-passed}
 use borrow.Author.Needs.{needs}

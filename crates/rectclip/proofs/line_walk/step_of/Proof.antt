@@ -1,5 +1,5 @@
 -- `step_of` meets its contract, case by case.
-use mathlib.Core.Path.{refl, sym, _∙_}
+use mathlib.Core.Path.{refl}
 use borrow.Author.Needs.{needs}
 use Rattle.rectclip.proofs.line_walk.step_of.Statement.{statement}
 use Rattle.rectclip.proofs.line_walk.step_of.Tie as tie

@@ -1,5 +1,4 @@
 -- `deliver_lines` meets its contract: refusal 11, or the counts and the filled lists.
-use mathlib.Core.Path.{refl, sym, _∙_, ap}
 use native.Mathlib.Omega.{arith}
 use Rattle.rectclip.proofs.Delivering.{refused-coordinates, refused-lengths, writes, drawn-all, counts-fit}
 use borrow.Author.Needs.{needs}

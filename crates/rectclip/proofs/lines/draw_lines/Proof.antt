@@ -1,5 +1,5 @@
 -- `draw_lines` meets its contract: an empty rectangle, bounds that miss it, and the walk.
-use mathlib.Core.Path.{refl, sym, _∙_, ap}
+use mathlib.Core.Path.{sym, _∙_, ap}
 use Prim.Native.Nat.{_/_}
 use lib.ListN.{length}
 use borrow.Author.Tests.{not-true, not-false}

@@ -1,5 +1,5 @@
 -- `get_next_location` meets its contract, from inside and from outside.
-use mathlib.Core.Path.{refl, sym, _∙_}
+use mathlib.Core.Path.{sym, _∙_}
 use Rattle.rectclip.proofs.Scanning.{next-as-inside}
 use Rattle.rectclip.proofs.Moving.{outside-moved}
 use borrow.Author.Needs.{needs}

@@ -1,5 +1,4 @@
 -- `is_past` meets its contract: the line's side is tested first.
-use mathlib.Core.Path.{refl, sym, _∙_}
 use mir.Syntax.{w64}
 use mir.Val.{SFits}
 use Rattle.integers.specs.Tests.{plain}

@@ -1,5 +1,5 @@
 -- `next_inside` meets its contract: what is left to do from point `i` on is what there was to do.
-use mathlib.Core.Path.{refl, sym, _∙_}
+use mathlib.Core.Path.{_∙_}
 use Prim.Native.Nat.{_-_}
 use borrow.Author.Tests.{not-true, not-false}
 use Rattle.rectclip.proofs.Limits.{path-limited}

@@ -1,5 +1,5 @@
 -- `scan` meets its contract: what is left to pass over from `i` on ends where the whole scan ends.
-use mathlib.Core.Path.{refl, sym, _∙_}
+use mathlib.Core.Path.{refl}
 use borrow.Author.Tests.{not-true, not-false}
 use Rattle.integers.specs.Tests.{back}
 use Prim.Native.Nat.{_-_}

@@ -1,6 +1,6 @@
 -- `rectclip::paths::count_result` meets its contract, one law for each way.
 use native.Mathlib.Omega.{arith}
-use mathlib.Core.Path.{sym, _∙_}
+use mathlib.Core.Path.{_∙_}
 use Rattle.rectclip.proofs.Counting.{counts-fit, counts-none, counts-some}
 use borrow.Author.Needs.{needs}
 use Rattle.rectclip.proofs.paths.count_result.Statement.{statement}

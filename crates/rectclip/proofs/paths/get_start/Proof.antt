@@ -1,5 +1,5 @@
 -- `rectclip::paths::get_start` meets its contract, one law for each way.
-use mathlib.Core.Path.{refl, sym, _∙_}
+use mathlib.Core.Path.{sym, _∙_}
 use Rattle.rectclip.proofs.Starts.{start-none, start-stub, start-lost, start-small, start-left}
 use borrow.Author.Needs.{needs}
 use Rattle.rectclip.proofs.paths.get_start.Statement.{statement}

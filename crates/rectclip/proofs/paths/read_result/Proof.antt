@@ -1,6 +1,6 @@
 -- `rectclip::paths::read_result` meets its contract, one law for each way.
 use native.Mathlib.Omega.{arith}
-use mathlib.Core.Path.{sym, _∙_}
+use mathlib.Core.Path.{_∙_}
 use Rattle.rectclip.proofs.WriteOut.{write-none, write-room, write-length, write-small, write-one}
 use borrow.Author.Needs.{needs}
 use Rattle.rectclip.proofs.paths.read_result.Statement.{statement}

@@ -1,6 +1,6 @@
 -- `rectclip::paths::straighten_results` meets its contract: the results in their order.
 use native.Mathlib.Omega.{arith}
-use mathlib.Core.Path.{sym, _∙_}
+use mathlib.Core.Path.{_∙_}
 use Prim.Native.Nat.{_-_}
 use Rattle.rectclip.proofs.Starts.{Straightened, straightened-start, straightened-again, straightened-all}
 use Rattle.rectclip.proofs.paths.straighten_results.Statement.{statement}

@@ -1,5 +1,4 @@
 -- `copy_points` meets its contract: the points up to `i` stand in the list.
-use mathlib.Core.Path.{refl, sym, _∙_}
 use Prim.Native.Nat.{_-_}
 use native.Mathlib.Omega.{arith}
 use Rattle.rectclip.proofs.Writing.{Copying, copying-none, copying-more, copying-fits, copying-done}

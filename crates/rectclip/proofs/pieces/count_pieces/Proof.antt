@@ -1,5 +1,4 @@
 -- `count_pieces` meets its contract: the results up to `j` are counted, and their points.
-use mathlib.Core.Path.{refl, sym, _∙_}
 use Prim.Native.Nat.{_-_}
 use native.Mathlib.Omega.{arith}
 use Rattle.rectclip.proofs.Results.{Counting, counting-none, count-more, count-same, count-fits, count-done}

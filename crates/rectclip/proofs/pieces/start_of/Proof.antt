@@ -1,5 +1,5 @@
 -- `start_of` meets its contract: a result's start, or the end of the points.
-use mathlib.Core.Path.{refl, sym, _∙_}
+use mathlib.Core.Path.{refl}
 use borrow.Author.Tests.{lt-ltb, le-ltb}
 use borrow.Author.Needs.{needs}
 use Rattle.rectclip.proofs.pieces.start_of.Statement.{statement}

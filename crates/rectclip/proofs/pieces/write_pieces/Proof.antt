@@ -1,5 +1,4 @@
 -- `write_pieces` meets its contract: the results up to `j` stand in the two lists.
-use mathlib.Core.Path.{refl, sym, _∙_}
 use Prim.Native.Nat.{_-_}
 use native.Mathlib.Omega.{arith}
 use Rattle.rectclip.proofs.Results.{count-fits}

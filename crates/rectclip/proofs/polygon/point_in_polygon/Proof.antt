@@ -14,7 +14,6 @@ use lib.IntN.{ℤ}
 use Rattle.plane.specs.declared.location.PointInPolygonResult.{PointInPolygonResult}
 use Rattle.plane.specs.Points.{points-of, pt-at}
 use Rattle.plane.specs.Polygon.{scan-loop}
-use Rattle.plane.specs.Polygon as polygon
 use Rattle.plane.specs.declared.point.Point64.{Point64}
 use Rattle.rectclip.proofs.Polygons.{too-few, all-level, scanned}
 use borrow.Author.Needs.{needs}

@@ -1,6 +1,6 @@
 -- `clip_outline` meets its contract: the arena, what is left of it, and its paths.
 use native.Mathlib.Omega.{arith}
-use mathlib.Core.Path.{refl, sym, _∙_, ap}
+use mathlib.Core.Path.{sym}
 use Rattle.rectclip.proofs.OutlineClips.{arranging, may-clip, clipped-is, readable}
 use Rattle.rectclip.proofs.Handing.{gives-same}
 use borrow.Author.Needs.{needs}

@@ -1,5 +1,4 @@
 -- `clip_path` meets its contract: the walk is refused, or its outline is clipped.
-use mathlib.Core.Path.{refl, sym, _∙_, ap}
 use Rattle.rectclip.proofs.ClosedEntry.{may-walk, outline-clips, walk-gives, walk-refuses}
 use borrow.Author.Needs.{needs}
 use Rattle.rectclip.proofs.rect_clip.clip_path.Statement.{statement}

@@ -1,5 +1,5 @@
 -- `draw_closed` meets its contract: nothing, the path as it came, or the path walked, in the definition's order.
-use mathlib.Core.Path.{refl, sym, _∙_, ap}
+use mathlib.Core.Path.{sym, _∙_, ap}
 use borrow.Author.Tests.{not-true, not-false}
 use Rattle.plane.specs.Rectangle.{intersects, contains-rect}
 use Rattle.rectclip.proofs.ClosedEntry.{drawn-empty, drawn-short, drawn-missed, drawn-copied, drawn-walked, may-clip-path}

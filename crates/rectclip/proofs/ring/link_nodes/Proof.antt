@@ -1,6 +1,5 @@
 -- `rectclip::ring::link_nodes` meets its contract: the nodes passed are linked, and the loop passes all.
 use native.Mathlib.Omega.{arith}
-use mathlib.Core.Path.{ap, _∙_}
 use Prim.Native.Nat.{_-_}
 use Rattle.rectclip.proofs.Building.{Linking, after-in, linking-start, linking-again}
 use Rattle.rectclip.proofs.ring.link_nodes.Statement.{statement}

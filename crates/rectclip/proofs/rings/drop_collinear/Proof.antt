@@ -1,7 +1,7 @@
 -- `rectclip::rings::drop_collinear` meets its contract: the loop passes as often as the definition's, and leaves where it does.
 use native.Mathlib.Omega.{arith}
 use borrow.Author.Needs.{needs}
-use mathlib.Core.Path.{refl, sym, _∙_}
+use mathlib.Core.Path.{refl, _∙_}
 use mathlib.Core.Logic.{inl, inr}
 use Prim.Native.Nat.{_+_, _*_}
 use Rattle.rectclip.specs.Stored.{points-in}

@@ -1,5 +1,4 @@
 -- `rectclip::rings::drop_collinear_pass` meets its contract, one law for each way.
-use native.Mathlib.Omega.{arith}
 use mathlib.Core.Path.{sym, _∙_}
 use Rattle.rectclip.specs.Stored.{points-in}
 use Rattle.rectclip.proofs.Dropping.{drop-kept, drop-moved, drop-last, drop-other, dropped-in}

@@ -1,7 +1,5 @@
 -- `rectclip::rings::is_flat` meets its contract: the three points are the definition's.
-use native.Mathlib.Omega.{arith}
 use mathlib.Core.Path.{_∙_}
-use Rattle.reference.specs.Arena.{is-flat}
 use borrow.Author.Needs.{needs}
 use Rattle.rectclip.proofs.rings.is_flat.Statement.{statement}
 use Rattle.rectclip.proofs.rings.is_flat.Tie as tie

@@ -2,7 +2,6 @@
 use native.Mathlib.Omega.{arith}
 use mathlib.Core.Path.{_∙_}
 use Rattle.rectclip.proofs.Stored.{point-in}
-use borrow.Author.Needs.{needs}
 use Rattle.rectclip.proofs.rings.point_of.Statement.{statement}
 use Rattle.rectclip.proofs.rings.point_of.Tie as tie
 

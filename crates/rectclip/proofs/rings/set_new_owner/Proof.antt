@@ -1,5 +1,4 @@
 -- `rectclip::rings::set_new_owner` meets its contract: the loop goes round as the definition does.
-use native.Mathlib.Omega.{arith}
 use borrow.Author.Needs.{needs}
 use mathlib.Core.Path.{_∙_}
 use Rattle.rectclip.proofs.Owners.{Owning, owning-start, owning-again, owning-stop, owning-out, owned}

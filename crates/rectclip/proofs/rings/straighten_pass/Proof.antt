@@ -1,5 +1,4 @@
 -- `rectclip::rings::straighten_pass` meets its contract, one law for each way.
-use native.Mathlib.Omega.{arith}
 use mathlib.Core.Path.{sym, _∙_}
 use Rattle.rectclip.proofs.Dropping.{straighten-kept, straighten-dropped}
 use borrow.Author.Needs.{needs}

@@ -1,7 +1,6 @@
 -- `rectclip::tidy::take_turns` meets its contract: the loop takes the definition's turns, and is left where it is.
 use native.Mathlib.Omega.{arith}
 use borrow.Author.Needs.{needs}
-use mathlib.Core.Path.{sym, _∙_}
 use borrow.Author.Tests.{not-true, not-false}
 use Rattle.rectclip.proofs.Tidying.{Tidying, tidying-start, tidying-stop, tidying-out, tidying-may, tidying-in, tidying-again}
 use Rattle.rectclip.proofs.tidy.take_turns.Statement.{statement}

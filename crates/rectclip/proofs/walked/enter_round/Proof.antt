@@ -1,5 +1,4 @@
 -- `enter_round` meets its contract: no corners, or the four corners one way round.
-use native.Mathlib.Omega.{arith}
 use Rattle.rectclip.proofs.WalkedArena.{round-cornered, clockwise-lists, other-lists, entered-never, entered-round}
 use borrow.Author.Needs.{needs}
 use Rattle.rectclip.proofs.walked.enter_round.Statement.{statement}

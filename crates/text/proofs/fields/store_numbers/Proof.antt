@@ -1,7 +1,7 @@
 -- `text::fields::store_numbers` meets its contract: the loop stores a number at a time. Assumes nothing.
 use mathlib.Core.Path.{_≡_, sym, _∙_}
 use mir.Syntax.{w64}
-use mir.Val.{SFits, toZ, ofZ}
+use mir.Val.{toZ, ofZ}
 use mir.Facts.{toZ-ofZ}
 use borrow.Author.Needs.{needs}
 use Prim.Native.Nat.{_-_}

@@ -1,13 +1,12 @@
 -- `text::numbers::put_numbers` meets its contract: the loop puts a number at a time. Assumes nothing.
 use borrow.Author.Needs.{needs}
-use mathlib.Core.Path.{_≡_, _∙_, ap}
+use mathlib.Core.Path.{_≡_}
 use Prim.Native.Nat.{_-_}
 use lib.ListN.{length, getD}
-use lib.IntN.{ℤ, pos}
+use lib.IntN.{pos}
 use mir.Syntax.{w64}
 use mir.Val.{SFits, toZ, ofZ}
 use mir.Facts.{toZ-ofZ}
-use Rattle.text.specs.Decimal.{signed-decimal}
 use Rattle.text.proofs.Puts.{PutTo, puts-start, puts-room, puts-again, puts-end}
 use Rattle.text.proofs.numbers.put_numbers.Statement.{statement}
 use Rattle.text.proofs.numbers.put_numbers.Tie as tie
