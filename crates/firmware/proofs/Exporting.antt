@@ -3,7 +3,7 @@
 use mathlib.Core.Path.{_≡_, refl, _∙_, ap, subst}
 use mathlib.Core.Bool.{Bool, true, false, not}
 use mathlib.Core.List.{List, [], _∷_}
-use Prim.Native.Nat.{ℕ, _+_, _*_, _/_, _%_, _<_, _≤_}
+use Prim.Native.Nat.{ℕ, _/_, _%_, _<_, _≤_}
 use native.Mathlib.Omega.{arith}
 use lib.ListN.{length, length-append, length-map, take, drop}
 use lib.Seq.{take-at}
@@ -26,6 +26,7 @@ use Rattle.theorems.specs.Demand.{is-walked}
 use Rattle.theorems.proofs.FewPoints.{few-points}
 use Rattle.theorems.proofs.FewResults.{few-results}
 use Rattle.theorems.proofs.FewLines.{few-lines}
+use Rattle.entry.proofs.Admitting.{let-through}
 use Rattle.entry.specs.declared.answer.Answer.{Answer}
 use Rattle.entry.specs.Answers.{outcome}
 use Rattle.rectclip.proofs.Coordinates.{points-length}
@@ -85,18 +86,6 @@ module _ (bytes : List ℕ) where
         go true odd long most = rw (odd, long, most, whole .0) refl
         go false odd long most = rw (odd, long, most, whole .0) refl
 
--- a call that is not refused early keeps the coordinate limit
-pub limits : (A : ℕ) (R : Rect64) (path : List ℤ) → early-refusal 256 A 8208 R path ≡ 0 → (rect-in-limit R ≡ true) × (all-in-limit path ≡ true)
-unfolding early-refusal sheet-refusal
-limits A R path e =
-    let p1 = chosen (eqb (length path % 2) 1) 1 (omega arith) e in
-    let p3 = chosen (ltb 65535 A) 3 (omega arith) (p1 .1) in
-    let p4 = chosen (ltb 8208 (16 * (256 + A + 1))) 4 (omega arith) (p3 .1) in
-    let p5 = chosen (ltb 4096 (length path / 2)) 5 (omega arith) (p4 .1) in
-    let p6 = chosen (not (rect-in-limit R)) 6 (omega arith) (p5 .1) in
-    let p7 = chosen (not (all-in-limit path)) 7 (omega arith) (p6 .1) in
-    (not-no (rect-in-limit R) (p6 .0), not-no (all-in-limit path) (p7 .0))
-
 -- ---- the room
 -- at most 256 points and 257 paths
 pub record Few (d : Drawing) : Type 0 where
@@ -137,7 +126,7 @@ module _ (R : Rect64) (path : List ℤ) (short : length path / 2 ≤ 128) where
           record { points = few-points 256 256 R path (d .0) (d .1) (omega arith) (T-of f) (T-of g) (T-of w) e; paths = omega (arith, m .0, m .1) }
 
   few-drawn : (closed : Bool) → early-refusal 256 (if closed then 256 else 0) 8208 R path ≡ 0 → (d : Drawing) → drawing-of closed R path ≡ ok d → Few d
-  few-drawn true z d e = let m = limits 256 R path z in few-closed (m .0) (m .1) d e
+  few-drawn true z d e = let m = let-through 256 256 8208 R path z in few-closed (m .frame) (m .points) d e
   few-drawn false z d e = few-open d e
 
   roomy : (closed : Bool) (l : Lent) → length (l .coordinates) ≡ 512 → length (l .lengths) ≡ 257 → Roomy l (early-refusal 256 (if closed then 256 else 0) 8208 R path) (drawing-of closed R path)

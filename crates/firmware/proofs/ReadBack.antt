@@ -24,7 +24,7 @@ use Rattle.theorems.proofs.Demand.{LimitedRect, rect-limited}
 use Rattle.theorems.proofs.ClosedArea.{call-bounded, demand-3}
 use Rattle.firmware.specs.Sending.{drawing-of}
 use Rattle.firmware.specs.ReadBack.{ReadsBack}
-use Rattle.firmware.proofs.Exporting.{limits}
+use Rattle.entry.proofs.Admitting.{let-through}
 
 -- ---- one number
 -- each quotient is 256 times the next and its byte
@@ -91,15 +91,15 @@ reads-back closed R path d z e = read-back (go closed z e)
   where
     go : (closed : Bool) → early-refusal 256 (if closed then 256 else 0) 8208 R path ≡ 0 → drawing-of closed R path ≡ ok d → Small (coordinates-of (joined (d .0)))
     go true z e =
-        let m = limits 256 R path z in
-        let D = demand-3 (no-room 256) 256 R path (call-bounded 256 (omega arith)) (T-of (m .0)) (T-of (m .1)) in
-        small-joined R (rect-limited R (T-of (m .0))) (d .0) (D .closed-sourced (d .0) (d .1) e .close-by)
+        let m = let-through 256 256 8208 R path z in
+        let D = demand-3 (no-room 256) 256 R path (call-bounded 256 (omega arith)) (T-of (m .frame)) (T-of (m .points)) in
+        small-joined R (rect-limited R (T-of (m .frame))) (d .0) (D .closed-sourced (d .0) (d .1) e .close-by)
     go false z e = lines (execute-lines (no-room 256) R (points-of path)) refl e
       where
         lines : (t : Try (List (List Point64))) → execute-lines (no-room 256) R (points-of path) ≡ t → (t >>= λ paths. ok (paths, 0)) ≡ ok d → Small (coordinates-of (joined (d .0)))
         lines (refuse n) f e = absurd (let w : _≡_ {A = ℕ} 0 1 = cc in omega arith)
         lines (ok paths) f e =
             let w : _≡_ {A = Drawing} (paths, 0) d = cc in
-            let m = limits 0 R path z in
-            let D = demand-3 (no-room 256) 0 R path (call-bounded 256 (omega arith)) (T-of (m .0)) (T-of (m .1)) in
-            subst (λ (x : Drawing). Small (coordinates-of (joined (x .0)))) w (small-joined R (rect-limited R (T-of (m .0))) paths (D .open-sourced paths f .close-by))
+            let m = let-through 256 0 8208 R path z in
+            let D = demand-3 (no-room 256) 0 R path (call-bounded 256 (omega arith)) (T-of (m .frame)) (T-of (m .points)) in
+            subst (λ (x : Drawing). Small (coordinates-of (joined (x .0)))) w (small-joined R (rect-limited R (T-of (m .frame))) paths (D .open-sourced paths f .close-by))

@@ -1,12 +1,12 @@
 -- What the exported functions hand over, from what the clippers promise. Assumes nothing.
-use mathlib.Core.Path.{_≡_, refl, sym, _∙_, ap, subst}
+use mathlib.Core.Path.{_≡_, refl, sym, _∙_, ap}
 use mathlib.Core.Bool.{Bool, true, false, _||_}
 use mathlib.Core.List.{List, [], _∷_, _++_, map}
 use Prim.Native.Nat.{ℕ, suc, _+_, _<_, _≤_}
 use native.Mathlib.Omega.{arith}
 use lib.ListN.{length, set}
 use lib.IntN.{ℤ}
-use lib.Dec.{T, eqb, ltb}
+use lib.Dec.{eqb, ltb}
 use borrow.Author.Tests.{le-ltb, lt-ltb, ltb-false}
 use Rattle.plane.specs.declared.rect.Rect64.{Rect64}
 use Rattle.plane.specs.Basics.{Try, refuse, ok}
@@ -20,6 +20,7 @@ use Rattle.entry.specs.Answers.{presence, number, outcome}
 use Rattle.rectclip.specs.Promises.{lent, ClipsOpen}
 use Rattle.rectclip.specs.ClosedPromises.{ClipsClosed}
 use Rattle.harness.specs.Values.{presence-value, Exported, counted-by, counted, clip-kind, Clips, uncounted-value, Counted, Hands}
+use Rattle.theorems.proofs.Tests.{neither}
 
 -- the value of `present`, where its answer is q
 pub present-value : (p q : Presence) (R R′ : Rect64) (path : List ℤ) → presence p ≡ is-present R path → R ≡ R′ → p ≡ q
@@ -68,10 +69,6 @@ nothing (x ∷ l) e = absurd (no (length l) e)
     no : (n : ℕ) → ltb 0 (suc n) ≡ false → ⊥
     no n e = omega (arith, ltb-false 0 (suc n) e)
 
-parts : (a b : Bool) → (a || b) ≡ false → (a ≡ false) × (b ≡ false)
-parts false b e = (refl, e)
-parts true b e = absurd (subst T e tt)
-
 -- ---- no room for the counts: the entry is lent no room for the result
 abbrev pub bare : Lent → Lent
 bare l = record { coordinates = []; lengths = []; store = l .store; work = l .work }
@@ -100,11 +97,11 @@ module _ (l : Lent) (counts : List ℕ) (h : ltb (length counts) 3 ≡ true) whe
           → Uncounted (counted l counts (delivered l d)) l counts (delivered (bare l) d)
       go true e true f = rw (e, f) (record { value = refl; coordinates = refl; lengths = refl; store = refl; work = refl; numbers = refl; no-coordinates = refl; no-lengths = refl })
       go true e false f =
-          let p = parts (ltb 0 (length (coordinates-of (joined (d .0))))) (ltb 0 (length (map length (d .0)))) f in
+          let p = neither (ltb 0 (length (coordinates-of (joined (d .0))))) (ltb 0 (length (map length (d .0)))) f in
           rw (e, f) (record { value = refl; coordinates = refl; lengths = refl; store = refl; work = refl; numbers = refl; no-coordinates = ap (λ c. filled c []) (nothing (coordinates-of (joined (d .0))) (p .0)); no-lengths = ap (λ c. filled c []) (nothing (map length (d .0)) (p .1)) })
       go false e true f = rw (e, f, h) (record { value = refl; coordinates = refl; lengths = refl; store = refl; work = refl; numbers = refl; no-coordinates = refl; no-lengths = refl })
       go false e false f =
-          let p = parts (ltb 0 (length (coordinates-of (joined (d .0))))) (ltb 0 (length (map length (d .0)))) f in
+          let p = neither (ltb 0 (length (coordinates-of (joined (d .0))))) (ltb 0 (length (map length (d .0)))) f in
           rw (e, f, h) (record { value = refl; coordinates = refl; lengths = refl; store = refl; work = refl; numbers = refl; no-coordinates = ap (λ c. filled c []) (nothing (coordinates-of (joined (d .0))) (p .0)); no-lengths = ap (λ c. filled c []) (nothing (map length (d .0)) (p .1)) })
 
   uncounted-is : (early : ℕ) (drawing : Try Drawing) → Uncounted (counted l counts (answered l early drawing)) l counts (answered (bare l) early drawing)

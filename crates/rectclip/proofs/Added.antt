@@ -1,34 +1,23 @@
 -- What `add` leaves: the point that was added is the last one, the start sides are as they were, and a point that differs from the
 -- last one makes one point more. Assumes nothing.
 use mathlib.Core.Path.{_≡_, refl, sym, _∙_, ap, subst}
-use mathlib.Core.Bool.{Bool, true, false, _&&_}
+use mathlib.Core.Bool.{Bool, true, false}
 use mathlib.Core.List.{List, [], _∷_}
 use mathlib.Core.Logic.{_⊎_, inl, inr, ⊎-elim}
 use Prim.Native.Nat.{ℕ, _+_, _-_, _<_}
 use native.Mathlib.Omega.{arith}
 use native.Mathlib.Decide.{ℕ-discrete}
 use lib.ListN.{length, length-append}
-use Rattle.integers.specs.Tests.{eqZ, eqZ-true}
 use Rattle.plane.specs.declared.point.Point64.{Point64}
 use Rattle.plane.specs.Basics.{push, Try, refuse, ok}
 use Rattle.plane.specs.Points.{same-point, pt-at}
 use Rattle.reference.specs.Walk.{Walk, add}
 use Rattle.rectclip.proofs.Adding.{add-first, add-new-full, add-new, add-same, add-full, add-longer}
+use Rattle.theorems.proofs.Crossings.{same-is}
 
 pub either : (b : Bool) → (b ≡ true) ⊎ (b ≡ false)
 either true = inl refl
 either false = inr refl
-
-and-both : (a b : Bool) → (a && b) ≡ true → (a ≡ true) × (b ≡ true)
-and-both true b e = (refl, e)
-and-both false b e = (e, absurd (let z : _≡_ {A = ℕ} 0 1 = cc in omega arith))
-
-pub same-is : (p q : Point64) → same-point p q ≡ true → p ≡ q
-same-is p q e =
-    let (a, b) = and-both (eqZ (p .x) (q .x)) (eqZ (p .y) (q .y)) e in
-    let ea : p .x ≡ q .x = eqZ-true a in
-    let eb : p .y ≡ q .y = eqZ-true b in
-    λ j. record { x = ea j; y = eb j }
 
 pub record Added (w v : Walk) (pt : Point64) : Type 0 where
   pub locs : v .start-locs ≡ w .start-locs

@@ -1,7 +1,7 @@
 -- The path goes round the rectangle: the four corners are added one after the other, and since neighbours differ, they are the last
 -- four points of the walk. Assumes nothing.
 use mathlib.Core.Path.{_≡_, refl, sym, _∙_, ap, subst}
-use mathlib.Core.Bool.{Bool, true, false, _&&_, _||_}
+use mathlib.Core.Bool.{Bool, true, false, _&&_}
 use mathlib.Core.List.{List, [], _∷_}
 use Prim.Native.Nat.{ℕ, _+_, _-_, _<_, _≤_}
 use native.Mathlib.Omega.{arith}
@@ -21,12 +21,9 @@ use Rattle.reference.specs.Walk as def
 use Rattle.rectclip.specs.Outlining.{entered-of, round-of, round-corners}
 use Rattle.rectclip.proofs.Walking.{on-ok}
 use Rattle.rectclip.proofs.Added.{Added, added}
+use Rattle.theorems.proofs.Tests.{neither}
 
 -- ---- neighbouring corners differ
-or-none : (a b : Bool) → (a || b) ≡ false → (a ≡ false) × (b ≡ false)
-or-none true b e = (e, absurd (let z : _≡_ {A = ℕ} 0 1 = cc in omega arith))
-or-none false b e = (refl, e)
-
 and-right : (a b : Bool) → b ≡ false → (a && b) ≡ false
 and-right true b e = e
 and-right false b e = refl
@@ -135,10 +132,10 @@ order is-clockwise = if is-clockwise then 0 ∷ 1 ∷ 2 ∷ 3 ∷ [] else 3 ∷ 
 
 module _ (full : ℕ → Bool) (rect : Rect64) where
   abbrev wide : is-empty rect ≡ false → leZ (rect .right) (rect .left) ≡ false
-  wide e = or-none (leZ (rect .right) (rect .left)) (leZ (rect .bottom) (rect .top)) e .0
+  wide e = neither (leZ (rect .right) (rect .left)) (leZ (rect .bottom) (rect .top)) e .0
 
   abbrev high : is-empty rect ≡ false → leZ (rect .bottom) (rect .top) ≡ false
-  high e = or-none (leZ (rect .right) (rect .left)) (leZ (rect .bottom) (rect .top)) e .1
+  high e = neither (leZ (rect .right) (rect .left)) (leZ (rect .bottom) (rect .top)) e .1
 
   pub round-done : (cw : Bool) → is-empty rect ≡ false → (s : Walk) {v : Walk} → ok v ≡ add-all full s (round-corners rect cw)
       → (ok (record { walk = v; entered = entered-of (length (v .points)) (round-of cw) }) ≡ add-round full rect s [] (order cw)) × (4 ≤ length (v .points))

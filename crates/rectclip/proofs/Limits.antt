@@ -1,6 +1,6 @@
 -- What the coordinate limit says of each point of a path and of each corner of the rectangle. Assumes nothing.
-use mathlib.Core.Path.{_≡_, refl}
-use mathlib.Core.Bool.{Bool, true, false, _&&_}
+use mathlib.Core.Path.{_≡_}
+use mathlib.Core.Bool.{true}
 use mathlib.Core.List.{List, [], _∷_}
 use Prim.Native.Nat.{ℕ, zero, suc, _≤_}
 use native.Mathlib.Omega.{arith}
@@ -16,10 +16,7 @@ use Rattle.plane.specs.Rectangle.{corner}
 use Rattle.integers.specs.Tests.{T-of}
 use Rattle.theorems.proofs.Demand.{LimitedRect, rect-limited}
 use Rattle.rectclip.specs.Bounds.{Reached, SearchLimits}
-
-both : (a b : Bool) → (a && b) ≡ true → (a ≡ true) × (b ≡ true)
-both true b e = (refl, e)
-both false b e = (e, absurd (let z : _≡_ {A = ℕ} 0 1 = cc in omega arith))
+use Rattle.theorems.proofs.Tests.{both}
 
 within : (z : ℤ) → in-limit z ≡ true → natAbs z ≤ 33554432
 within z e = leb-true _ _ e

@@ -1,7 +1,7 @@
 -- Room for results and edge lists over the steps of a turn: a turn takes at most one result and one entry more. Assumes nothing.
-use mathlib.Core.Path.{_≡_, refl, ap}
+use mathlib.Core.Path.{_≡_, ap}
 use mathlib.Core.Bool.{Bool, true, false}
-use mathlib.Core.List.{List, [], _∷_}
+use mathlib.Core.List.{[], _∷_}
 use mathlib.Core.Logic.{⊎-elim}
 use Prim.Native.Nat.{ℕ, zero, suc, _+_, _*_, _<_}
 use native.Mathlib.Omega.{arith}
@@ -17,6 +17,7 @@ use Rattle.rectclip.specs.Arenas.{Marked, Space}
 use Rattle.rectclip.specs.Turns.{put-entry, joined, split, set-roots}
 use Rattle.rectclip.proofs.Ranges.{set-or}
 use Rattle.rectclip.proofs.Spare.{by-test, free-any, spare-entered, spare-result}
+use Rattle.theorems.proofs.FewEntries.{struck-length}
 
 module _ {N r k : ℕ} {a : Arena} where
   pub space-less : Space N r (suc k) a → Space N r k a
@@ -41,15 +42,6 @@ pub space-put : {N r k : ℕ} {a : Arena} (idx i j v : ℕ) (b : Bool) → idx <
 unfolding put-entry
 space-put idx i j v true h S = space-entry (idx * 2) i v (omega arith) S
 space-put idx i j v false h S = space-entry (idx * 2 + 1) j v (omega arith) S
-
-struck-length : (l : List ℕ) (op : ℕ) → length (struck l op) ≡ length l
-unfolding struck
-struck-length [] op = refl
-struck-length (x ∷ l) op =
-    elim (ℕ-discrete x op) [
-      | yes e ↦ rw (eq-eqb x op e) refl
-      | no q ↦ rw (ne-eqb x op q) (ap suc (struck-length l op))
-    ]
 
 -- a node leaves its list and enters list e
 pub space-moved : {N r k : ℕ} {a : Arena} → Space N r (suc k) a → (e op : ℕ) → e < 8 → op < length (a .edge) → Marked 8 (edge-of a op) → Space N r k (add-to-edge (uncouple-edge a op) e op)

@@ -4,11 +4,7 @@ use mathlib.Core.List.{List, [], _∷_, _++_}
 use Prim.Native.Nat.{ℕ}
 use lib.IntN.{ℤ, pos, _+ℤ_, _-ℤ_, negℤ, +ℤ-assoc, +ℤ-comm, +ℤ-idl}
 use Rattle.theorems.proofs.RingLaw.{end, end-append}
-
-swap-mid : (a b c d : ℤ) → (a +ℤ b) +ℤ (c +ℤ d) ≡ (a +ℤ c) +ℤ (b +ℤ d)
-swap-mid a b c d =
-    +ℤ-assoc a b (c +ℤ d) ∙ ap (λ (z : ℤ). a +ℤ z) (sym (+ℤ-assoc b c d) ∙ ap (λ (z : ℤ). z +ℤ d) (+ℤ-comm b c) ∙ +ℤ-assoc c b d)
-    ∙ sym (+ℤ-assoc a c (b +ℤ d))
+use Rattle.integers.specs.Laws.{swap-middle as swap-mid}
 
 module _ (wt : ℕ → ℕ → ℤ) where
   unfoldable pub sum : ℕ → List ℕ → ℤ

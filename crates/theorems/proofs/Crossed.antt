@@ -7,7 +7,7 @@ use lib.IntN.{ℤ, pos, negℤ, natAbs, _-ℤ_, _*ℤ_, *ℤ-comm}
 use lib.Ieee.{Float, binary64, round, eq, le}
 use Rattle.rounding.specs.Coordinate.{isNegative, Crosses, difference, zeroF, oneF, coordinate}
 use Rattle.rounding.proofs.Whole.{Is}
-use Rattle.rounding.proofs.Exact.{crosses-sign, crosses-lt, quotient, size-mul, size-neg, cross-is, difference-is, difference-small, left-product, right-product, level-product, neg-difference, none}
+use Rattle.rounding.proofs.Exact.{crosses-sign, crosses-lt, quotient, size-neg, cross-is, difference-is, difference-small, left-product, right-product, level-product, neg-difference, none}
 use Rattle.rounding.proofs.Nearby.{coordinate-near}
 use Rattle.rounding.proofs.Inside.{not-eq-zero, rounded-above-zero, rounded-below-one}
 use Rattle.plane.specs.declared.point.Point64.{Point64}
@@ -16,6 +16,7 @@ use Rattle.plane.specs.declared.crossing.Crossing.the-variants.{Nothing, At, Al
 use Rattle.plane.specs.Limit.{AllLimited}
 use Rattle.plane.specs.Segment.{determinant, numerator, fraction, workingOf, crossingOf, pointAt, settledOf, intersection}
 use Rattle.plane.specs.Found.{Found, NearCrossing}
+use Rattle.integers.specs.Order.{abs-mul as size-mul}
 
 -- ---- numerator and determinant are exact
 module _ (a b c d : Point64) (h : AllLimited a b c d) where

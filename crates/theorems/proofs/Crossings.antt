@@ -50,7 +50,7 @@ module _ (w : Working) (s : Location) (q : Point64) (t : Location) where
       (λ _. chain (Bool·beq (ltZ (a .x) (p .x)) (ltZ (p .x) (b .x))) _ _ (λ _ e. same p e) (λ _ e. nothing e))
       (λ _. chain (Bool·beq (ltZ (a .y) (p .y)) (ltZ (p .y) (b .y))) _ _ (λ _ e. same p e) (λ _ e. nothing e)))
 
-same-is : (p q : Point64) → same-point p q ≡ true → p ≡ q
+pub same-is : (p q : Point64) → same-point p q ≡ true → p ≡ q
 same-is p q e = go (eqZ (p .x) (q .x)) refl (eqZ (p .y) (q .y)) refl e
   where
     go : (s : Bool) → eqZ (p .x) (q .x) ≡ s → (t : Bool) → eqZ (p .y) (q .y) ≡ t → (s && t) ≡ true → p ≡ q

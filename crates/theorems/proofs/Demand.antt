@@ -8,29 +8,27 @@ use native.Mathlib.Omega.{arith}
 use lib.ListN.{length}
 use lib.Dec.{T, lit<, leb→le}
 use lib.IntN.{ℤ, pos, natAbs, _+ℤ_, _-ℤ_, _*ℤ_}
-use lib.Signed.{leZ, _≤ℤ_, _<ℤ_, yes-nonNeg, pos-natAbs}
-use Rattle.integers.specs.Order.{zint, sub-pn, add-pn}
+use lib.Signed.{leZ, _≤ℤ_, _<ℤ_}
+use Rattle.integers.specs.Order.{zint, sub-pn, add-pn, size-up, size-down}
 use Rattle.integers.specs.Tests.{leZ-false}
 use Rattle.integers.specs.Ring.{var, _⊕_, _⊖_, _⊗_, ring}
 use Rattle.rounding.specs.Coordinate.{exact, Near, Limit}
-use Rattle.rounding.proofs.Exact.{size-neg, neg-difference}
 use Rattle.rounding.proofs.Edge.{low-side, high-side}
 use Rattle.plane.specs.declared.point.Point64.{Point64}
 use Rattle.plane.specs.Limit.{Limited, AllLimited, in-limit, all-in-limit, rect-in-limit}
 use Rattle.plane.specs.declared.rect.Rect64.{Rect64}
 use Rattle.plane.specs.declared.location.Location.{Location}
 use Rattle.plane.specs.declared.location.Location.the-variants.{Left, Top, Right, Bottom, Inside}
-use Rattle.plane.specs.declared.crossing.Search.{Search}
 use Rattle.plane.specs.declared.crossing.Search.the-variants.{Missed, Found}
-use Rattle.plane.specs.Basics.{Try, ok}
+use Rattle.plane.specs.Basics.{ok}
 use Rattle.plane.specs.Points.{pt-at, point, origin, points-of}
 use Rattle.plane.specs.Rectangle.{as-path, is-empty, beyond}
 use Rattle.plane.specs.Locations.{same-location, lower, upper}
-use Rattle.plane.specs.Intersection.{edge-intersection, _or-else_, side-intersection, get-intersection}
+use Rattle.plane.specs.Intersection.{edge-intersection, side-intersection, get-intersection}
 use Rattle.reference.specs.Clip.{execute}
 use Rattle.reference.specs.Lines.{execute-lines}
 use Rattle.theorems.specs.Demand.{ExactCrossing, NearTo, Segment, onward, closing, turned, Source, input-point, corner-point, crossing, AtMostOneOutside, Sourced, Between, across}
-use Rattle.theorems.proofs.Holds.{Holds, refused, held, either, All, all-at}
+use Rattle.theorems.proofs.Holds.{Holds, held, either, All, all-at, holds-map, or-cases, guarded}
 use Rattle.theorems.proofs.Returned.{AllPaths, KeptPaths}
 use Rattle.theorems.proofs.Sources.{Hit, at-corner, at-crossing, Searches, closed-sources, open-sources}
 use Rattle.theorems.proofs.CrossingSigns.{NearBy, scaled}
@@ -88,19 +86,11 @@ module _ (r : Rect64) (lr : LimitedRect r) (wide : r .left <ℤ r .right) (high 
       go (got-near n) = at-crossing Bottom (record { is-side = i; extends = n .crossed .extends; crosses = n .crossed .crosses; not-before = n .crossed .not-before; not-behind = n .crossed .not-behind }) (record { near-x = n .near-along; near-y = n .near-across })
   edge-hit Inside i q t m = let z : _≡_ {A = ℕ} 0 1 = cc in absurd (omega arith)
 
-  or-else-cases : {W : Type 0} (x y : Search) (q : Point64) (t : Location) → (x ≡ Found q t → W) → (y ≡ Found q t → W) → (x or-else y) ≡ Found q t → W
-  or-else-cases (Found p s) y q t h k e = h e
-  or-else-cases Missed y q t h k e = k e
-
-  guarded : {W : Type 0} (g : Bool) (x : Search) (q : Point64) (t : Location) → (x ≡ Found q t → W) → (cond g x Missed) ≡ Found q t → W
-  guarded true x q t h e = h e
-  guarded false x q t h e = let z : _≡_ {A = ℕ} 0 1 = cc in absurd (omega arith)
-
   side-hit : (s : Location) → same-location s Inside ≡ false → same-location (lower s) Inside ≡ false → same-location (upper s) Inside ≡ false → (q : Point64) (t : Location) → side-intersection r s a b ≡ Found q t → Hit r a b q
   unfolding side-intersection
   side-hit s i j k q t =
-      or-else-cases (edge-intersection r s a b) _ q t (edge-hit s i q t)
-      (or-else-cases (cond (beyond r (lower s) a) (edge-intersection r (lower s) a b) Missed) _ q t
+      or-cases (edge-intersection r s a b) _ q t (edge-hit s i q t)
+      (or-cases (cond (beyond r (lower s) a) (edge-intersection r (lower s) a b) Missed) _ q t
       (guarded (beyond r (lower s) a) (edge-intersection r (lower s) a b) q t (edge-hit (lower s) j q t)) (edge-hit (upper s) k q t))
 
   pub search-hits : Searches r a b
@@ -110,9 +100,9 @@ module _ (r : Rect64) (lr : LimitedRect r) (wide : r .left <ℤ r .right) (high 
   search-hits Right q t = side-hit Right refl refl refl q t
   search-hits Bottom q t = side-hit Bottom refl refl refl q t
   search-hits Inside q t =
-      or-else-cases (edge-intersection r Left a b) _ q t (edge-hit Left refl q t)
-      (or-else-cases (edge-intersection r Top a b) _ q t (edge-hit Top refl q t)
-      (or-else-cases (edge-intersection r Right a b) _ q t (edge-hit Right refl q t) (edge-hit Bottom refl q t)))
+      or-cases (edge-intersection r Left a b) _ q t (edge-hit Left refl q t)
+      (or-cases (edge-intersection r Top a b) _ q t (edge-hit Top refl q t)
+      (or-cases (edge-intersection r Right a b) _ q t (edge-hit Right refl q t) (edge-hit Bottom refl q t)))
 
 -- ---- limits
 split : (x y : Bool) → T (x && y) → T x × T y
@@ -143,12 +133,6 @@ pub not-empty-order : (r : Rect64) → is-empty r ≡ false → (r .left <ℤ r 
 not-empty-order r e = let n = neither (leZ (r .right) (r .left)) (leZ (r .bottom) (r .top)) e in (leZ-false (n .0), leZ-false (n .1))
 
 -- ---- at most one unit outside
-size-up : (a b : ℤ) → b ≤ℤ a → pos (natAbs (a -ℤ b)) ≡ a -ℤ b
-size-up a b h = let z : pos 0 ≤ℤ (a -ℤ b) = omega (zint, sub-pn a b) in pos-natAbs (a -ℤ b) (yes-nonNeg z)
-
-size-down : (a b : ℤ) → a ≤ℤ b → pos (natAbs (a -ℤ b)) ≡ b -ℤ a
-size-down a b h = ap pos (ap natAbs (sym (neg-difference b a)) ∙ size-neg (b -ℤ a)) ∙ size-up b a h
-
 -- across the edge the exact crossing is on the edge's line
 exact-across : (a m b : ℤ) → Between a m b → exact a b (natAbs (a -ℤ m)) (natAbs (a -ℤ b)) ≡ m *ℤ pos (natAbs (a -ℤ b))
 exact-across a m b (inl h) =
@@ -232,10 +216,6 @@ module _ {P R : Point64 → Type 0} (f : (p : Point64) → P p → R p) where
   paths-map : (qs : List (List Point64)) → AllPaths P qs → AllPaths R qs
   paths-map [] h = tt
   paths-map (q ∷ qs) h = (all-map q (h .0), paths-map qs (h .1))
-
-holds-map : {A : Type 0} {Q R : A → Type 0} {m : Try A} → ((a : A) → Q a → R a) → Holds Q m → Holds R m
-holds-map f refused = refused
-holds-map f (held {a} h) = held (f a h)
 
 holds-at : {A : Type 0} {Q : A → Type 0} (a : A) → Holds Q (ok a) → Q a
 holds-at a (held h) = h

@@ -17,7 +17,7 @@ use Rattle.reference.specs.Arena.{Arena, pt-of, next-of, prev-of, owner-of, res
 use Rattle.theorems.specs.Demand.{area-to, signedArea2}
 use Rattle.theorems.proofs.RingLaw.{Chain, Ring, end, Off, Distinct}
 use Rattle.theorems.proofs.AreaLaw.{area}
-use Rattle.theorems.proofs.RingLists.{All, In}
+use Rattle.theorems.proofs.RingLists.{All, In, in-end}
 use Rattle.theorems.proofs.RingSet.{Rings, areaOf, total}
 use Rattle.theorems.proofs.RingStep.{Found, Core, from-node, next-live, prev-live, next-prev, prev-next, node-in}
 use Rattle.theorems.proofs.TidyInv.{weight}
@@ -163,10 +163,6 @@ distinct-up k (suc m) = (off-up k (suc k) m (omega arith), distinct-up (suc k) m
 end-up : (k m : ℕ) → end k (upwards (suc k) m) ≡ k + m
 end-up k zero = omega arith
 end-up k (suc m) = end-up (suc k) m ∙ omega arith
-
-in-end : (a : ℕ) (xs : List ℕ) → In (end a xs) (a ∷ xs)
-in-end a [] = inl refl
-in-end a (x ∷ xs) = inr (in-end x xs)
 
 all-up : (P : ℕ → Type 0) (k m : ℕ) → ((i : ℕ) → i < k + m → P i) → All P (upwards k m)
 all-up P k zero f = tt

@@ -16,8 +16,9 @@ use Rattle.theorems.specs.Bounds.{DropEnds}
 use Rattle.theorems.proofs.Ends.{more-of}
 use Rattle.theorems.proofs.RingLaw.{end, Ring, Distinct, turn, end-append}
 use Rattle.theorems.proofs.RingLaw as L
-use Rattle.theorems.proofs.Unlinked.{distinct, simple, without, to-back, front, distinct-turn}
+use Rattle.theorems.proofs.Unlinked.{distinct, simple, without, to-back, front}
 use Rattle.theorems.proofs.Tests.{or-left, or-right}
+use Rattle.theorems.proofs.RingLists.{distinct-turn}
 
 -- ---- `check_edges`' loop: op2 goes round to op once; a node that is dropped takes its own pass
 -- the ring without its first node, from the last one on

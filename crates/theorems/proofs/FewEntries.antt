@@ -54,7 +54,7 @@ list-more a k w d h = put-more (a .edges) k w d h
 entry-more : (a : Arena) (k i v : ℕ) → More a (set-entry a k i v) 0
 entry-more a k i v = list-more a k (set (edge-list a k) i v) 0 (let e = length-set (edge-list a k) i v in omega arith)
 
-struck-length : (l : List ℕ) (op : ℕ) → length (struck l op) ≡ length l
+pub struck-length : (l : List ℕ) (op : ℕ) → length (struck l op) ≡ length l
 unfolding struck
 struck-length [] op = refl
 struck-length (x ∷ l) op = go (eqb x op) (struck-length l op)

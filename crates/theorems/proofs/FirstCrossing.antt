@@ -15,18 +15,17 @@ use Rattle.plane.specs.declared.crossing.Crossing.the-variants.{Nothing, At, Al
 use Rattle.plane.specs.declared.rect.Rect64.{Rect64}
 use Rattle.plane.specs.declared.location.Location.{Location}
 use Rattle.plane.specs.declared.location.Location.the-variants.{Left, Top, Right, Bottom, Inside}
-use Rattle.plane.specs.declared.crossing.Search.{Search}
 use Rattle.plane.specs.declared.crossing.Search.the-variants.{Missed, Found}
-use Rattle.plane.specs.Basics.{if_then_else_, Try, ok}
+use Rattle.plane.specs.Basics.{if_then_else_, ok}
 use Rattle.plane.specs.declared.location.Spot.{Spot}
 use Rattle.plane.specs.Points.{pt-at, same-point}
 use Rattle.plane.specs.Locations.{same-location, lower, upper, get-adjacent-location, is-inside}
 use Rattle.plane.specs.Rectangle.{get-location, mid-point, as-path, beyond, beyond-or-on}
 use Rattle.plane.specs.Segment.{workingOf, settledOf}
-use Rattle.plane.specs.Intersection.{edge-from, edge-to, get-segment-intersection, met, edge-intersection, side-intersection, _or-else_, get-intersection}
+use Rattle.plane.specs.Intersection.{edge-from, edge-to, get-segment-intersection, met, edge-intersection, side-intersection, get-intersection}
 use Rattle.plane.specs.Signs.{is-clockwise-dir}
 use Rattle.reference.specs.Walk.{Walk, add, push-start-loc, add-corner-prev-curr, add-corners, push-start-locs, next-side, State, Pass, remain-outside, enter, pass-to, pass-through, leave, cross-boundary, pt-before}
-use Rattle.theorems.proofs.Holds.{Holds, refused, held, bind, either, by-search, anything}
+use Rattle.theorems.proofs.Holds.{Holds, refused, held, bind, either, by-search, anything, or-cases, guarded}
 
 -- The one fact of geometry that the area equation asks for (proved in Entering): where the walk comes from a point on or beyond side s to a point strictly inside, the search for a crossing finds one.
 -- walkgeo proves this of its own search (`Search.enter`: strictly inside, and on or beyond a side); left is that this search misses only where that one does. For a crossing
@@ -36,10 +35,6 @@ EntryFound rect path =
     (s : Location) (k : ℕ) → k < length path → is-inside s ≡ false → beyond-or-on rect s (pt-before path k) ≡ true → beyond-or-on rect s (pt-at path k) ≡ false → next-side rect s (pt-at path k) ≡ Inside
     → get-intersection rect (pt-at path k) (pt-before path k) Inside ≡ Missed → ⊥
 
-pub holds-map : {A : Type 0} {Q R : A → Type 0} {m : Try A} → ((a : A) → Q a → R a) → Holds Q m → Holds R m
-holds-map f refused = refused
-holds-map f (held {a} h) = held (f a h)
-
 pub clash : {W : Type 0} (b : Bool) → b ≡ true → b ≡ false → W
 clash b p q = let z : _≡_ {A = ℕ} 0 1 = cc in absurd (omega arith)
 
@@ -48,14 +43,6 @@ met-side : (s : Location) (c : Crossing) (q : Point64) (t : Location) → is-ins
 met-side s Nothing q t h e = let z : _≡_ {A = ℕ} 0 1 = cc in absurd (omega arith)
 met-side s (At p) q t h e = let z : s ≡ t = cc in subst (λ (l : Location). is-inside l ≡ false) z h
 met-side s (Along x) q t h e = let z : _≡_ {A = ℕ} 0 1 = cc in absurd (omega arith)
-
-or-cases : {W : Type 0} (x y : Search) (q : Point64) (t : Location) → (x ≡ Found q t → W) → (y ≡ Found q t → W) → (x or-else y) ≡ Found q t → W
-or-cases (Found p s) y q t h k e = h e
-or-cases Missed y q t h k e = k e
-
-guarded : {W : Type 0} (g : Bool) (x : Search) (q : Point64) (t : Location) → (x ≡ Found q t → W) → (cond g x Missed) ≡ Found q t → W
-guarded true x q t h e = h e
-guarded false x q t h e = let z : _≡_ {A = ℕ} 0 1 = cc in absurd (omega arith)
 
 module _ (r : Rect64) (a b : Point64) (q : Point64) (t : Location) where
   edge-side : (s : Location) → is-inside s ≡ false → edge-intersection r s a b ≡ Found q t → is-inside t ≡ false

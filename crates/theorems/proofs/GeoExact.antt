@@ -5,7 +5,7 @@ use mathlib.Core.Logic.{_⊎_, inl, inr, ⊎-elim}
 use Prim.Native.Nat.{_<_, _≤_}
 use lib.IntN.{ℤ, pos, natAbs, _+ℤ_, _-ℤ_, _*ℤ_}
 use lib.Signed.{_≤ℤ_, _<ℤ_}
-use Rattle.integers.specs.Order.{zint, sub-pn, abs-pn, parts}
+use Rattle.integers.specs.Order.{zint, sub-pn, abs-pn, parts, size-up, size-down}
 use Rattle.integers.specs.Ring.{Ex, v0, v1, v2, v3, v4, v5, v6, _⊕_, _⊖_, _⊗_}
 use Rattle.integers.specs.Certify.{_≼_, hyp, certify-le}
 use Rattle.plane.specs.declared.point.Point64.{Point64}
@@ -15,15 +15,6 @@ use Rattle.theorems.proofs.CrossingSigns.{Crossed}
 use Rattle.theorems.proofs.GeoPlane.{Side, onLeft, onTop, onRight, onBottom, loc}
 use Rattle.theorems.proofs.GeoCut.{Cut}
 use Rattle.theorems.proofs.GeoSides.{Meets}
-
--- the size of a difference
-size : (a b : ℤ) → b ≤ℤ a → pos (natAbs (a -ℤ b)) ≡ a -ℤ b
-size a b h = ⊎-elim (λ e. omega (zint, abs-pn (a -ℤ b), sub-pn a b)) (λ e. omega (zint, abs-pn (a -ℤ b), sub-pn a b)) (parts (a -ℤ b))
-
-size-back : (a b : ℤ) → a ≤ℤ b → pos (natAbs (a -ℤ b)) ≡ b -ℤ a
-size-back a b h =
-    ⊎-elim (λ e. ⊎-elim (λ f. omega (zint, abs-pn (a -ℤ b), sub-pn a b, sub-pn b a)) (λ f. omega (zint, abs-pn (a -ℤ b), sub-pn a b, sub-pn b a)) (parts (b -ℤ a)))
-    (λ e. ⊎-elim (λ f. omega (zint, abs-pn (a -ℤ b), sub-pn a b, sub-pn b a)) (λ f. omega (zint, abs-pn (a -ℤ b), sub-pn a b, sub-pn b a)) (parts (b -ℤ a))) (parts (a -ℤ b))
 
 apart : (a b : ℤ) → a <ℤ b → 0 < natAbs (a -ℤ b)
 apart a b h = omega (zint, abs-pn (a -ℤ b), sub-pn a b)
@@ -64,10 +55,10 @@ module _ (x1 y1 x2 y2 x3 lo hi : ℤ) where
 
   module _ (before : x1 ≤ℤ x3) (after : x3 ≤ℤ x2) where
     D : pos (natAbs (x1 -ℤ x2)) ≡ x2 -ℤ x1
-    D = size-back x1 x2 (omega zint)
+    D = size-down x1 x2 (omega zint)
 
     R : pos (natAbs (x1 -ℤ x3)) ≡ x3 -ℤ x1
-    R = size-back x1 x3 before
+    R = size-down x1 x3 before
 
     up-to : x1 <ℤ x2 → Up → Crossed x1 y1 x2 y2 x3 lo hi
     up-to h i = record {
@@ -85,10 +76,10 @@ module _ (x1 y1 x2 y2 x3 lo hi : ℤ) where
 
   module _ (before : x3 ≤ℤ x1) (after : x2 ≤ℤ x3) where
     D′ : pos (natAbs (x1 -ℤ x2)) ≡ x1 -ℤ x2
-    D′ = size x1 x2 (omega zint)
+    D′ = size-up x1 x2 (omega zint)
 
     R′ : pos (natAbs (x1 -ℤ x3)) ≡ x1 -ℤ x3
-    R′ = size x1 x3 before
+    R′ = size-up x1 x3 before
 
     down-to : x2 <ℤ x1 → Down → Crossed x1 y1 x2 y2 x3 lo hi
     down-to h i = record {

@@ -11,6 +11,7 @@ use Rattle.plane.specs.declared.crossing.Search.{Search}
 use Rattle.plane.specs.declared.crossing.Search.the-variants.{Missed, Found}
 use Rattle.plane.specs.Basics.{Try, refuse, ok, _>>=_}
 use native.Mathlib.Omega.{arith}
+use Rattle.plane.specs.Intersection.{_or-else_}
 
 pub data Holds {A : Type 0} (Q : A → Type 0) : Try A → Type 0 where
   refused : {n : ℕ} → Holds Q (refuse n)
@@ -37,6 +38,10 @@ pub weaker : {A : Type 0} (Q R : A → Type 0) (m : Try A) → Holds Q m → ((a
 weaker Q R m refused f = refused
 weaker Q R m (held {a} h) f = held (f a h)
 
+pub holds-map : {A : Type 0} {Q R : A → Type 0} {m : Try A} → ((a : A) → Q a → R a) → Holds Q m → Holds R m
+holds-map f refused = refused
+holds-map f (held {a} h) = held (f a h)
+
 pub holds-both : {A : Type 0} {Q R : A → Type 0} {m : Try A} → Holds Q m → Holds R m → Holds (λ a. Q a × R a) m
 holds-both {m = refuse n} h k = refused
 holds-both {Q} {R} {m = ok a} (held h) (held k) = held (h, k)
@@ -44,6 +49,15 @@ holds-both {Q} {R} {m = ok a} (held h) (held k) = held (h, k)
 pub holds-ok : {A : Type 0} {Q : A → Type 0} (m : Try A) (x : A) → Holds Q m → m ≡ ok x → Q x
 holds-ok {A} {Q} m x (held {a} h) e = let q : a ≡ x = cc in subst Q q h
 holds-ok m x refused e = let z : _≡_ {A = ℕ} 0 1 = cc in absurd (omega arith)
+
+-- ---- a search that found something
+pub or-cases : {W : Type 0} (x y : Search) (q : Point64) (t : Location) → (x ≡ Found q t → W) → (y ≡ Found q t → W) → (x or-else y) ≡ Found q t → W
+or-cases (Found p s) y q t h k e = h e
+or-cases Missed y q t h k e = k e
+
+pub guarded : {W : Type 0} (g : Bool) (x : Search) (q : Point64) (t : Location) → (x ≡ Found q t → W) → (cond g x Missed) ≡ Found q t → W
+guarded true x q t h e = h e
+guarded false x q t h e = let z : _≡_ {A = ℕ} 0 1 = cc in absurd (omega arith)
 
 -- ---- all points of a list
 abbrev pub All : (Point64 → Type 0) → List Point64 → Type 0

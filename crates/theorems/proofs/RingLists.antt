@@ -93,3 +93,7 @@ off-turn u a (x ∷ xs) o h = (o .0, off-turn u a xs (o .1) h)
 pub distinct-turn : (a : ℕ) (xs : List ℕ) → Off a xs → Distinct xs → Distinct (xs ++ a ∷ [])
 distinct-turn a [] o d = (tt, tt)
 distinct-turn a (x ∷ xs) o d = (off-turn x a xs (d .0) (λ e. o .0 (sym e)), distinct-turn a xs (o .1) (d .1))
+
+pub in-end : (a : ℕ) (xs : List ℕ) → In (end a xs) (a ∷ xs)
+in-end a [] = inl refl
+in-end a (x ∷ xs) = inr (in-end x xs)

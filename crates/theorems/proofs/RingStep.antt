@@ -10,7 +10,7 @@ use native.Mathlib.Omega.{arith}
 use native.Mathlib.Decide.{ℕ-discrete, decLt}
 use Rattle.plane.specs.Basics.{none}
 use Rattle.theorems.proofs.RingLaw.{Link, end, Off, Distinct, Exchanged, split, distinct-right, chain-seam, end-append}
-use Rattle.theorems.proofs.RingLists.{RingOf, All, In, all-map, all-in, all-of, all-right, in-append, in-left, in-right, all-off}
+use Rattle.theorems.proofs.RingLists.{RingOf, All, In, all-map, all-in, all-of, all-right, in-append, in-left, in-right, all-off, in-end}
 use Rattle.theorems.proofs.RingSet.{Ok, Rings, other, split-rings, join-rings, areaOf, total, total-set, total-split, total-join, ok-turn, area-one, ending, beginning, parts}
 
 -- the result of a ring is one of its nodes, and of no ring it is none
@@ -80,10 +80,6 @@ module _ (wt : ℕ → ℕ → ℤ) (n : ℕ) (nx pv ow : ℕ → ℕ) (rs : Lis
 
   pub node-in : (s i : ℕ) → In i (getD rs s []) → i < n
   node-in s i h = all-in _ i (getD rs s []) (G s .own) h .0
-
-  in-end : (a : ℕ) (xs : List ℕ) → In (end a xs) (a ∷ xs)
-  in-end a [] = inl refl
-  in-end a (x ∷ xs) = inr (in-end x xs)
 
   pub prev-live : (s i : ℕ) → In i (getD rs s []) → In (pv i) (getD rs s [])
   prev-live s i h =

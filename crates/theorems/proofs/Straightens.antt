@@ -17,9 +17,10 @@ use Rattle.theorems.specs.Bounds as B
 use Rattle.theorems.specs.Bounds.{StraightenEnds}
 use Rattle.theorems.proofs.Ends.{more-of}
 use Rattle.theorems.proofs.RingLaw.{end, Ring, Distinct, turn}
-use Rattle.theorems.proofs.Unlinked.{distinct, simple, without, to-next, front, distinct-turn}
+use Rattle.theorems.proofs.Unlinked.{distinct, simple, without, to-next, front}
 use Rattle.integers.specs.Tests.{cond-true}
 use Rattle.theorems.proofs.Tests.{or-left, or-right}
+use Rattle.theorems.proofs.RingLists.{distinct-turn}
 
 -- ---- 1 + 2 + .. + n
 pub tri : ℕ → ℕ

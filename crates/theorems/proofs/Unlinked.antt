@@ -101,11 +101,3 @@ module _ (a : Arena) (b x : ℕ) (xs : List ℕ) (r : Ring (next-of a) (prev-of 
 pub front : (x : ℕ) (xs : List ℕ) → (zs : List ℕ) × (x ∷ xs ≡ zs ++ end x xs ∷ []) × (length zs ≡ length xs)
 front x [] = ([], refl, refl)
 front x (y ∷ ys) = let r = front y ys in (x ∷ r .0, ap (λ (l : List ℕ). x ∷ l) (r .1), ap suc (r .2))
-
-off-turn : (u a : ℕ) (xs : List ℕ) → Off u xs → (a ≡ u → ⊥) → Off u (xs ++ a ∷ [])
-off-turn u a [] o h = (h, tt)
-off-turn u a (x ∷ xs) o h = (o .0, off-turn u a xs (o .1) h)
-
-pub distinct-turn : (a : ℕ) (xs : List ℕ) → Off a xs → Distinct xs → Distinct (xs ++ a ∷ [])
-distinct-turn a [] o d = (tt, tt)
-distinct-turn a (x ∷ xs) o d = (off-turn x a xs (d .0) (λ e. o .0 (sym e)), distinct-turn a xs (o .1) (d .1))

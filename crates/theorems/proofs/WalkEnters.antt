@@ -26,8 +26,8 @@ use Rattle.plane.specs.Intersection.{get-intersection}
 use Rattle.plane.specs.Signs.{is-clockwise-dir}
 use Rattle.plane.specs.Polygon.{path1-contains-path2}
 use Rattle.reference.specs.Walk.{Walk, nothing-yet, add, add-all, Next, add-corner-loc, push-start-locs, next-side, next-outside, get-next-location, State, Pass, remain-outside, pt-before, pass-from, passes, last-off, add-round, surround, retrace, close-outline, after-while, walk-from, walk-closed}
-use Rattle.theorems.proofs.Holds.{Holds, refused, held, bind, either, by-search, anything}
-use Rattle.theorems.proofs.FirstCrossing.{EntryFound, holds-map, clash, found-side, NotIn, cross-out, remain-out, start-points, next-region, first, spot-region}
+use Rattle.theorems.proofs.Holds.{Holds, refused, held, bind, either, by-search, anything, holds-map}
+use Rattle.theorems.proofs.FirstCrossing.{EntryFound, clash, found-side, NotIn, cross-out, remain-out, start-points, next-region, first, spot-region}
 use Rattle.theorems.proofs.Tests.{neither}
 
 -- ---- `lead`
