@@ -39,6 +39,7 @@ fn next_byte(buffer: &mut [u8; 65536], cursor: Cursor) -> Next {
 }
 
 // The next line, line feed left out. Of a line that is too long, as much is kept as `line` can hold.
+// What is read is open, so the promise says only that the line lies within its list; what the buffer holds afterwards is open too.
 // A proved loop has to end, and nothing says that a line does: the turns are counted down from a number that no run uses up.
 pub fn take_line(buffer: &mut [u8; 65536], start: Cursor, line: &mut [u8]) -> Taken
     ensures { λ r. ⌜ r .count ≤ length (now (line .exit)) ⌝ }
