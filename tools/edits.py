@@ -2,9 +2,10 @@
 """edits.py [--logs] [CRATE...]: are the must-fail edits what they claim? Run in the repository's root.
 
 Every edit's old text stands exactly once in its file. Every public function of the named crates (else: of none) has two edits or more,
-and they are printed: those that change its own text or a constant that it names, and those whose `of:` line names it.
-With --logs, after `rt must-fail`: the log of each edit of the named crates refuses every function that the edit changes and every one
-that its `of:` line names, and none because a proof file no longer fits the code."""
+and they are printed: those that change its own text or a constant that it names, and those whose `of:` line names it. Of the functions
+that one edit changes none calls another, so that each is refused for its own sake.
+With --logs, after `rt must-fail`: the log of each edit of the named crates refuses every function that the edit changes, every one that
+its `of:` lines name and every law that its `at:` lines name, and nothing because a proof file no longer fits the code."""
 import glob
 import os
 import re
@@ -26,6 +27,7 @@ class Function:
 class Edit:
     label: str
     of: list = field(default_factory=list)
+    at: list = field(default_factory=list)
     places: list = field(default_factory=list)  # (file, line)
 
 
@@ -69,8 +71,8 @@ def parse(crate, path):
     file = old = ""
     for line in read(path).split("\n"):
         key, _, rest = line.partition(": ")
-        if key == "of":
-            edit.of += rest.split(", ")
+        if key in ("of", "at"):
+            getattr(edit, key).extend(rest.split(", "))
         elif key == "file":
             file = rest
         elif key == "old":
@@ -97,6 +99,25 @@ def changed(edit, crate, all_functions):
                 yield f
 
 
+def called(f, all_functions):
+    """The functions that a function calls, itself or through others, by their names: `Type::name(`, `.name(` or `name(`."""
+    found, new = [], [f]
+    while new:
+        for owner, name in set(re.findall(r"(?:\b([A-Z]\w*)::)?\b(\w+)\(", new.pop().text.partition("\n")[2])):
+            for g in all_functions:
+                if ("::" + g.name).endswith(f"::{owner}::{name}" if owner else f"::{name}") and g not in found:
+                    found.append(g)
+                    new.append(g)
+    return found
+
+
+def check_apart(edit, crate, own, all_functions):
+    for f in own:
+        for g in called(f, all_functions):
+            if g in own and g != f:
+                wrong.append(f"{crate}/{edit.label}: it changes {f.name} and {g.name}, which the first calls")
+
+
 def named(edit, crate, all_functions):
     """The public functions that an edit's `of:` line names."""
     for name in edit.of:
@@ -114,6 +135,10 @@ def check_log(edit, crate, touched):
     log = read(path)
     if re.search(r"has no `Need-[^`]*` that can be named", log):
         wrong.append(f"{crate}/{edit.label}: a proof file no longer fits the code")
+    for place in edit.at:
+        file, law = place.split()
+        if not re.search(rf"/{file}:\d+:\d+: error: `{law}`: (?!`[^`]*` was not)", log):
+            wrong.append(f"{crate}/{edit.label}: its log does not refuse {law} of {file} for its own sake")
     for f in touched:
         if not re.search(rf"^fn {crate}::{f.name}: (not proved|no proof)", log, re.M):
             wrong.append(f"{crate}/{edit.label}: its log does not refuse {f.name}")
@@ -123,7 +148,9 @@ def check(crate, edits, logs):
     all_functions = functions(crate)
     shown = {f.name: [] for f in all_functions if f.public}
     for edit in edits:
-        touched = list(changed(edit, crate, all_functions)) + list(named(edit, crate, all_functions))
+        own = list(changed(edit, crate, all_functions))
+        check_apart(edit, crate, own, all_functions)
+        touched = own + list(named(edit, crate, all_functions))
         for f in touched:
             if f.public and edit.label not in shown[f.name]:
                 shown[f.name].append(edit.label)

@@ -1,3 +1,2 @@
 -- Words of the replay program's contracts.
-pub mod Same
 pub mod Fits

@@ -2,12 +2,13 @@
 ghost use mathlib.Core.Path.{_≡_};
 ghost use Prim.Native.Nat.{_≤_};
 ghost use lib.ListN.{take};
+ghost use Rattle.text.specs.Same.{same};
 ghost use Rattle.replay.specs.Fits.{Fits, Fronts, Next};
-ghost use Rattle.replay.specs.Same.{same};
 use libc::STDOUT_FILENO;
 use plane::rect::Rect64;
 use program::answers::answer_line;
 use std::num::wrapping_add_u64;
+use text::comparing::same_bytes;
 use text::reading::Request;
 use text::reading::read_line;
 
@@ -20,23 +21,6 @@ pub(crate) struct Replay {
     pub kept: usize,
     pub drawings: u64,
     pub same: u64,
-}
-
-// Whether two lists of bytes are equal.
-fn same_bytes(a: &[u8], b: &[u8]) -> bool
-    ensures { λ r. ⌜ r ≡ same (now (a .entry)) (now (b .entry)) ⌝ }
-{
-    if a.len() != b.len() {
-        return false;
-    }
-    let mut i: usize = 0;
-    while i < a.len() {
-        if a[i] != b[i] {
-            return false;
-        }
-        i += 1;
-    }
-    true
 }
 
 // Whether the fronts of two lists are equal.

@@ -7,3 +7,4 @@ pub mod Written
 pub mod Scanning
 pub mod Putting
 pub mod Examples
+pub mod Same

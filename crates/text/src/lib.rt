@@ -1,4 +1,5 @@
-// The clip program's lines: reading one into a request, and writing answers.
+// The clip program's lines: reading one into a request, writing answers, and comparing them.
+pub mod comparing;
 mod decimal;
 mod digits;
 mod fields;

@@ -11,6 +11,7 @@ use crate::numbers::put_numbers;
 use crate::numbers::room_after;
 use plane::rect::Rect64;
 
+// A letter, the numbers of two lists and a line feed, into a list that can hold them.
 fn put_line(letter: u8, head: &[i64], tail: &[i64], out: &mut [u8]) -> usize
     requires { ⌜ length (line-of letter (now head ++ now tail)) ≤ length (now out) ⌝ }
     ensures { λ r. ⌜ Put (line-of letter (now (head .entry) ++ now (tail .entry))) 0 (now (out .entry)) r (now (out .exit)) ⌝ }
@@ -23,7 +24,7 @@ fn put_line(letter: u8, head: &[i64], tail: &[i64], out: &mut [u8]) -> usize
 }
 
 // A letter, the numbers of two lists, a line feed. Answers how many bytes the line has; where `out` cannot hold it, 0, and `out` stays as it came.
-pub fn write_line(letter: u8, head: &[i64], tail: &[i64], out: &mut [u8]) -> usize
+fn write_line(letter: u8, head: &[i64], tail: &[i64], out: &mut [u8]) -> usize
     ensures { λ r. ⌜ Written (line-of letter (now (head .entry) ++ now (tail .entry))) (now (out .entry)) r (now (out .exit)) ⌝ }
 {
     if out.len() < 2 {
