@@ -36,6 +36,12 @@ pub record Clips (a : After) (r : Answer) (after : Lent) : Type 0 where
   pub store : after .store ≡ a .lists .store
   pub work : after .work ≡ a .lists .work
 
+-- the answer and the two lists that are filled alone: where store and work are not lent, or are still to be cleared
+pub record Leaves (a : After) (r : Answer) (coordinates : List ℤ) (lengths : List ℕ) : Type 0 where
+  pub answer : outcome r ≡ a .answer
+  pub coords : coordinates ≡ a .lists .coordinates
+  pub counts : lengths ≡ a .lists .lengths
+
 -- the paths that a result returned stand in the leading entries, and each of their points has its source
 pub record Returned (closed : Bool) (rect : Rect64) (path : List ℤ) (c : Counts) (lists : Lent) : Type 0 where
   pub paths : List (List Point64)
@@ -49,12 +55,6 @@ pub record ClipsOpen (rect : Rect64) (path : List ℤ) (before : Lent) (r : Answ
   pub returned : (c : Counts) → r ≡ Drawn c → Returned false rect path c after
 
 -- ---- words of the private functions
--- the answer and the two lists that are filled are those of a definition's call
-pub record Leaves (a : After) (r : Answer) (coordinates : List ℤ) (lengths : List ℕ) : Type 0 where
-  pub answer : outcome r ≡ a .answer
-  pub coords : coordinates ≡ a .lists .coordinates
-  pub counts : lengths ≡ a .lists .lengths
-
 -- a drawing is handed out; what store and work hold does not matter
 pub record Delivers (d : Drawing) (coordinates : List ℤ) (lengths : List ℕ) (r : Answer) (coordinates′ : List ℤ) (lengths′ : List ℕ) : Type 0 where
   pub is : (store : List ℤ) (work : List ℕ) → Leaves (delivered (lent coordinates lengths store work) d) r coordinates′ lengths′
