@@ -17,9 +17,9 @@ use Rattle.entry.specs.declared.answer.Refusal.{Refusal}
 use Rattle.entry.specs.declared.answer.Refusal.the-variants.{OddCoordinates, StoreTooLong, AllowanceTooLarge, WorkTooShort, PathTooLong, RectangleOutside, PathOutside, StoreFull, CrossingLost, TurnsSpent, ListsTooShort, UnreadableLine}
 use Rattle.entry.specs.declared.answer.Answer.{Answer}
 use Rattle.entry.specs.Answers.{presence, number, outcome}
-use Rattle.rectclip.specs.Promises.{lent, ClipsOpen}
+use Rattle.rectclip.specs.Promises.{lent, Clips, ClipsOpen}
 use Rattle.rectclip.specs.ClosedPromises.{ClipsClosed}
-use Rattle.harness.specs.Values.{presence-value, Exported, counted-by, counted, clip-kind, Clips, uncounted-value, Counted, Hands}
+use Rattle.harness.specs.Values.{presence-value, Exported, counted-by, counted, clip-kind, uncounted-value, Counted, Hands}
 use Rattle.theorems.proofs.Tests.{neither}
 
 -- the value of `present`, where its answer is q
@@ -137,7 +137,7 @@ hands-uncounted closed A R path l counts h k n =
 -- ---- what the two clippers promise
 module _ {closed : Bool} (A : ℕ) {R : Rect64} {path : List ℤ} {l : Lent} {r : Answer} {after : Lent} where
   pub clips-closed : closed ≡ true → ClipsClosed A R path l r after → Clips (clip-kind closed A R path l) r after
-  clips-closed e k = rw e (record { answer = k .answer; coordinates = k .coordinates; lengths = k .lengths; store = k .store; work = k .work })
+  clips-closed e k = rw e (k .clips)
 
   pub clips-open : closed ≡ false → ClipsOpen R path l r after → Clips (clip-kind closed A R path l) r after
-  clips-open e k = rw e (record { answer = k .answer; coordinates = k .coordinates; lengths = k .lengths; store = k .store; work = k .work })
+  clips-open e k = rw e (k .clips)

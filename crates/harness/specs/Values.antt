@@ -9,8 +9,6 @@ use lib.IntN.{ℤ}
 use Rattle.plane.specs.declared.rect.Rect64.{Rect64}
 use Rattle.plane.specs.Basics.{if_then_else_}
 use Rattle.reference.specs.Entry.{Outcome, refused, drawn, Lent, After, filled, cleared, clip-open, clip-closed, Presence, unknown, yes, no}
-use Rattle.entry.specs.declared.answer.Answer.{Answer}
-use Rattle.entry.specs.Answers.{outcome}
 
 abbrev pub presence-value : Presence → ℕ
 presence-value (unknown n) = 100 + n
@@ -46,14 +44,6 @@ pub record Hands (e : Exported) (r : ℕ) (after : Lent) (numbers : List ℕ) : 
 -- the clipper of the path's kind
 abbrev pub clip-kind : Bool → ℕ → Rect64 → List ℤ → Lent → After
 clip-kind closed A rect path l = if closed then clip-closed A rect path l else clip-open rect path l
-
--- the answer and the lists are those of a definition's call
-pub record Clips (a : After) (r : Answer) (after : Lent) : Type 0 where
-  pub answer : outcome r ≡ a .answer
-  pub coordinates : after .coordinates ≡ a .lists .coordinates
-  pub lengths : after .lengths ≡ a .lists .lengths
-  pub store : after .store ≡ a .lists .store
-  pub work : after .work ≡ a .lists .work
 
 abbrev pub uncounted-value : Outcome → ℕ
 uncounted-value (refused n) = n

@@ -2,11 +2,11 @@
 ghost use mathlib.Core.Path.{_≡_};
 ghost use Rattle.plane.specs.Rectangle.{rect};
 ghost use Rattle.reference.specs.Entry.{clip-open, clip-closed, is-present};
-ghost use Rattle.rectclip.specs.Promises.{lent};
+ghost use Rattle.rectclip.specs.Promises.{lent, Clips};
 ghost use Prim.Native.Nat.{_≤_};
 ghost use lib.ListN.{length};
 ghost use Rattle.entry.specs.Answers.{outcome};
-ghost use Rattle.harness.specs.Values.{presence-value, clip-kind, Clips, uncounted-value, counted, Counted, Hands};
+ghost use Rattle.harness.specs.Values.{presence-value, clip-kind, uncounted-value, counted, Counted, Hands};
 use entry::answer::Answer;
 use entry::answer::Presence;
 use entry::present::present;

@@ -24,7 +24,7 @@ use Rattle.entry.specs.declared.answer.Refusal.{Refusal}
 use Rattle.entry.specs.Answers.{outcome, checked, admission}
 use Rattle.entry.proofs.Admitting.{Let, let-through, told-stopped, told-admitted}
 use Rattle.entry.proofs.Sheets.{number-not-zero}
-use Rattle.rectclip.specs.Promises.{lent, Leaves}
+use Rattle.rectclip.specs.Promises.{lent, Clips, Leaves}
 use Rattle.rectclip.proofs.Writing.{coordinates-length, filled-length}
 
 -- ---- store and work are cleared
@@ -85,22 +85,14 @@ module _ (l : Lent) (c : Counts) (after : Lent) where
   drew (ok d) er L P k = k d refl (shows d (rw er at (L .answer)) (L .coords) (L .counts))
 
 -- ---- the call
--- its answer and every lent list afterwards are a definition's
-pub record Ends (a : After) (r : Answer) (after : Lent) : Type 0 where
-  pub answer : outcome r ≡ a .answer
-  pub coordinates : after .coordinates ≡ a .lists .coordinates
-  pub lengths : after .lengths ≡ a .lists .lengths
-  pub store : after .store ≡ a .lists .store
-  pub work : after .work ≡ a .lists .work
-
 module _ (l : Lent) (A : ℕ) (rect : Rect64) (path : List ℤ) (d : Try Drawing) where
   abbrev early : ℕ
   early = early-refusal (length (l .store) / 2) A (length (l .work)) rect path
 
   module _ (k : Admission) (ek : checked k ≡ admission early path) where
-    pub ends-early : (why : Refusal) → k ≡ Refused why → Ends (answered l early d) (answer.Refused why) l
+    pub clips-early : (why : Refusal) → k ≡ Refused why → Clips (answered l early d) (answer.Refused why) l
     unfolding answered
-    ends-early why e =
+    clips-early why e =
         let n = told-stopped path early k ek why e in
         let z : eqb early 0 ≡ false = ap (λ (m : ℕ). eqb m 0) n ∙ number-not-zero why in
         record { answer = rw (z, n) refl; coordinates = rw z refl; lengths = rw z refl; store = rw z refl; work = rw z refl }
@@ -115,10 +107,10 @@ module _ (l : Lent) (A : ℕ) (rect : Rect64) (path : List ℤ) (d : Try Drawing
       call-is : answered l early d ≡ answered l 0 d
       call-is = ap (λ (n : ℕ). answered l n d) (told-admitted path early k ek bounds e .0)
 
-      pub ends-cleared : {r : Answer} {coordinates′ : List ℤ} {lengths′ : List ℕ} → Leaves (answered l 0 d) r coordinates′ lengths′
+      pub clips-cleared : {r : Answer} {coordinates′ : List ℤ} {lengths′ : List ℕ} → Leaves (answered l 0 d) r coordinates′ lengths′
           → (store1 : List ℤ) (work1 : List ℕ) {store2 : List ℤ} {work2 : List ℕ} → length store1 ≡ length (l .store) → length work1 ≡ length (l .work) → store2 ≡ replicate (length store1) (pos 0) → work2 ≡ replicate (length work1) 0
-          → Ends (answered l early d) r (lent coordinates′ lengths′ store2 work2)
-      ends-cleared L store1 work1 a b s w = record {
+          → Clips (answered l early d) r (lent coordinates′ lengths′ store2 work2)
+      clips-cleared L store1 work1 a b s w = record {
         answer = L .answer ∙ sym (ap (λ (x : After). x .answer) call-is);
         coordinates = L .coords ∙ sym (ap (λ (x : After). x .lists .coordinates) call-is);
         lengths = L .counts ∙ sym (ap (λ (x : After). x .lists .lengths) call-is);

@@ -27,7 +27,7 @@ use Rattle.rectclip.specs.Promises.{lent, Leaves}
 use Rattle.rectclip.specs.ClosedPromises.{ReturnedClosed, ClipsClosed}
 use Rattle.rectclip.specs.Delivering.{Gives, Clippable}
 use Rattle.entry.proofs.Admitting.{Let}
-use Rattle.rectclip.proofs.Calling.{drew, ends-early, allowed, bounds-are, ends-cleared}
+use Rattle.rectclip.proofs.Calling.{drew, clips-early, allowed, bounds-are, clips-cleared}
 
 -- ---- where the returned points come from, and their areas
 module _ (rect : Rect64) (path : List ℤ) (A W : ℕ) (few : W ≤ 65536) (hr : rect-in-limit rect ≡ true) (hp : all-in-limit path ≡ true) (l : Lent) (c : Counts) (after : Lent) where
@@ -51,15 +51,7 @@ module _ (rect : Rect64) (path coordinates : List ℤ) (lengths : List ℕ) (sto
   pub refused-closed : (why : Refusal) → k ≡ Refused why → ClipsClosed A rect path before (answer.Refused why) before
   unfolding clip-closed
   refused-closed why e =
-      let E = ends-early before A rect path drawing k ek why e in
-      record {
-        answer = E .answer;
-        coordinates = E .coordinates;
-        lengths = E .lengths;
-        store = E .store;
-        work = E .work;
-        returned = λ c q. absurd (let y : _≡_ {A = ℕ} 0 1 = cc in omega arith);
-      }
+      record { clips = clips-early before A rect path drawing k ek why e; returned = λ c q. absurd (let y : _≡_ {A = ℕ} 0 1 = cc in omega arith) }
 
   module _ (bounds : Rect64) (e : k ≡ Admitted bounds) where
     allowed-closed : Let (length store / 2) A (length work) rect path
@@ -83,12 +75,7 @@ module _ (rect : Rect64) (path coordinates : List ℤ) (lengths : List ℕ) (sto
     unfolding clip-closed
     clipped-closed {coordinates′} {lengths′} G store1 work1 {store2} {work2} a b s w =
         let L = G .is store work in
-        let E = ends-cleared before A rect path drawing k ek bounds e L store1 work1 a b s w in
         record {
-          answer = E .answer;
-          coordinates = E .coordinates;
-          lengths = E .lengths;
-          store = E .store;
-          work = E .work;
+          clips = clips-cleared before A rect path drawing k ek bounds e L store1 work1 a b s w;
           returned = λ c q. returns-closed rect path A (length store / 2) (allowed-closed .few) (allowed-closed .frame) (allowed-closed .points) before c (lent coordinates′ lengths′ store2 work2) q L;
         }

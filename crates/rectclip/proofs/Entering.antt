@@ -27,7 +27,7 @@ use Rattle.entry.specs.Answers.{number, checked, admission}
 use Rattle.rectclip.specs.Pieces.{paths-of}
 use Rattle.rectclip.specs.Promises.{lent, line-drawing, Returned, ClipsOpen, Leaves, Delivers, Drawable}
 use Rattle.entry.proofs.Admitting.{Let}
-use Rattle.rectclip.proofs.Calling.{Shown, drew, ends-early, allowed, bounds-are, ends-cleared}
+use Rattle.rectclip.proofs.Calling.{Shown, drew, clips-early, allowed, bounds-are, clips-cleared}
 use Rattle.rectclip.proofs.Delivering.{long-enough}
 
 -- ---- the line clipper's drawing, by its cases
@@ -88,15 +88,7 @@ module _ (rect : Rect64) (path coordinates : List ℤ) (lengths : List ℕ) (sto
   pub refused-early : (why : Refusal) → k ≡ Refused why → ClipsOpen rect path before (answer.Refused why) before
   unfolding clip-open
   refused-early why e =
-      let E = ends-early before 0 rect path drawing k ek why e in
-      record {
-        answer = E .answer;
-        coordinates = E .coordinates;
-        lengths = E .lengths;
-        store = E .store;
-        work = E .work;
-        returned = λ c q. absurd (let y : _≡_ {A = ℕ} 0 1 = cc in omega arith);
-      }
+      record { clips = clips-early before 0 rect path drawing k ek why e; returned = λ c q. absurd (let y : _≡_ {A = ℕ} 0 1 = cc in omega arith) }
 
   module _ (bounds : Rect64) (e : k ≡ Admitted bounds) where
     allowed-lines : Let (length store / 2) 0 (length work) rect path
@@ -118,12 +110,7 @@ module _ (rect : Rect64) (path coordinates : List ℤ) (lengths : List ℕ) (sto
         → ClipsOpen rect path before r (lent coordinates′ lengths′ store2 work2)
     unfolding clip-open
     clipped {coordinates′} {lengths′} L store1 work1 {store2} {work2} a b s w =
-        let E = ends-cleared before 0 rect path drawing k ek bounds e L store1 work1 a b s w in
         record {
-          answer = E .answer;
-          coordinates = E .coordinates;
-          lengths = E .lengths;
-          store = E .store;
-          work = E .work;
+          clips = clips-cleared before 0 rect path drawing k ek bounds e L store1 work1 a b s w;
           returned = λ c q. returns-sourced rect path (allowed-lines .frame) (allowed-lines .points) (length store / 2) before c (lent coordinates′ lengths′ store2 work2) q L;
         }

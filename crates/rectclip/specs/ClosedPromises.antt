@@ -12,8 +12,7 @@ use Rattle.reference.specs.Entry.{Lent, clip-closed}
 use Rattle.entry.specs.declared.answer.Answer.{Answer}
 use Rattle.entry.specs.declared.answer.Answer.the-variants.{Drawn}
 use Rattle.entry.specs.declared.answer.Counts.{Counts}
-use Rattle.entry.specs.Answers.{outcome}
-use Rattle.rectclip.specs.Promises.{Returned}
+use Rattle.rectclip.specs.Promises.{Clips, Returned}
 
 -- the returned paths, of which each point has its source; of a path that is walked, their areas add up to the walked outline's
 pub record ReturnedClosed (rect : Rect64) (path : List ℤ) (c : Counts) (lists : Lent) : Type 0 where
@@ -22,9 +21,5 @@ pub record ReturnedClosed (rect : Rect64) (path : List ℤ) (c : Counts) (lists 
 
 -- `RectClip64::execute` with the turn allowance A: r is the answer, `before` and `after` are the lent lists
 pub record ClipsClosed (A : ℕ) (rect : Rect64) (path : List ℤ) (before : Lent) (r : Answer) (after : Lent) : Type 0 where
-  pub answer : outcome r ≡ clip-closed A rect path before .answer
-  pub coordinates : after .coordinates ≡ clip-closed A rect path before .lists .coordinates
-  pub lengths : after .lengths ≡ clip-closed A rect path before .lists .lengths
-  pub store : after .store ≡ clip-closed A rect path before .lists .store
-  pub work : after .work ≡ clip-closed A rect path before .lists .work
+  pub clips : Clips (clip-closed A rect path before) r after
   pub returned : (c : Counts) → r ≡ Drawn c → ReturnedClosed rect path c after

@@ -25,6 +25,23 @@ use Rattle.rectclip.specs.Memory.{Room}
 abbrev pub lent : List ℤ → List ℕ → List ℤ → List ℕ → Lent
 lent coordinates lengths store work = record { coordinates = coordinates; lengths = lengths; store = store; work = work }
 
+-- The answer r and the four lent lists afterwards are those of the definition's call a (reference, Entry). Renders of document 01:
+-- 'Checks run in number order; the first that applies is given, and only then', and 'Each returns its number alone, and leaves coordinate
+-- and length lists as they came. 1 to 7 leave store and work too; 8 to 11, and every result, leave both all zero. A result gives paths,
+-- points and turns, and changes only the leading entries it fills.'
+pub record Clips (a : After) (r : Answer) (after : Lent) : Type 0 where
+  pub answer : outcome r ≡ a .answer
+  pub coordinates : after .coordinates ≡ a .lists .coordinates
+  pub lengths : after .lengths ≡ a .lists .lengths
+  pub store : after .store ≡ a .lists .store
+  pub work : after .work ≡ a .lists .work
+
+-- the answer and the two lists that are filled alone: where store and work are not lent, or are still to be cleared
+pub record Leaves (a : After) (r : Answer) (coordinates : List ℤ) (lengths : List ℕ) : Type 0 where
+  pub answer : outcome r ≡ a .answer
+  pub coords : coordinates ≡ a .lists .coordinates
+  pub counts : lengths ≡ a .lists .lengths
+
 -- the paths that a result returned stand in the leading entries, and each of their points has its source
 pub record Returned (closed : Bool) (rect : Rect64) (path : List ℤ) (c : Counts) (lists : Lent) : Type 0 where
   pub paths : List (List Point64)
@@ -34,20 +51,10 @@ pub record Returned (closed : Bool) (rect : Rect64) (path : List ℤ) (c : Count
 
 -- `RectClipLines64::execute`: r is the answer, `before` and `after` are the lent lists
 pub record ClipsOpen (rect : Rect64) (path : List ℤ) (before : Lent) (r : Answer) (after : Lent) : Type 0 where
-  pub answer : outcome r ≡ clip-open rect path before .answer
-  pub coordinates : after .coordinates ≡ clip-open rect path before .lists .coordinates
-  pub lengths : after .lengths ≡ clip-open rect path before .lists .lengths
-  pub store : after .store ≡ clip-open rect path before .lists .store
-  pub work : after .work ≡ clip-open rect path before .lists .work
+  pub clips : Clips (clip-open rect path before) r after
   pub returned : (c : Counts) → r ≡ Drawn c → Returned false rect path c after
 
 -- ---- words of the private functions
--- the answer and the two lists that are filled are those of a definition's call
-pub record Leaves (a : After) (r : Answer) (coordinates : List ℤ) (lengths : List ℕ) : Type 0 where
-  pub answer : outcome r ≡ a .answer
-  pub coords : coordinates ≡ a .lists .coordinates
-  pub counts : lengths ≡ a .lists .lengths
-
 -- a drawing is handed out; what store and work hold does not matter
 pub record Delivers (d : Drawing) (coordinates : List ℤ) (lengths : List ℕ) (r : Answer) (coordinates′ : List ℤ) (lengths′ : List ℕ) : Type 0 where
   pub is : (store : List ℤ) (work : List ℕ) → Leaves (delivered (lent coordinates lengths store work) d) r coordinates′ lengths′

@@ -14,7 +14,11 @@ enum-known-w : tie.Need-enum-known-w
 enum-known-w c = search needs
 
 add-requires : tie.Need-add-requires
-add-requires c κs = record { fits = c .before .before .before .before .before .before .before .before .enter-corners .ensures .fits _ (c .before .before .before .w .given .1); close = c .before .before .before .before .before .before .before .before .before .before .before .before .before .pre .close }
+add-requires c κs =
+    let w : tie.After-w = search in
+    let e : tie.After-enter-corners = search in
+    let s : tie.Start = search in
+    record { fits = e .enter-corners .ensures .fits _ (w .w .given .1); close = s .pre .close }
 
 advance-of-requires : tie.Need-advance-of-requires
 advance-of-requires c κs = search needs
@@ -29,7 +33,13 @@ same-length-2 : tie.Need-same-length-2
 same-length-2 c = search needs
 
 returns : tie.Need-returns
-returns c = enter-walked (c .before .before .before .before .before .before .before .before .before .before .before .before .before .before .before .before .before .before .args .rect) (c .before .before .before .before .before .before .before .before .before .before .before .before .before .before .before .before .before .before .args .store .now) (c .before .before .before .before .before .before .before .before .before .before .before .before .before .before .before .before .before .before .args .work .now) (c .before .before .before .before .before .before .before .before .before .before .before .before .before .before .before .before .before .before .args .c) (c .before .before .before .before .before .before .before .before .before .before .before .before .before .before .before .before .before .before .args .crossing-loc) (c .before .before .before .before .before .before .before .before .before .before .before .before .before .before .before .before .before .before .args .ip) (c .before .before .before .before .before .before .before .before .before .before .before .before .before .enter-corners .ensures) (c .before .before .before .before .before .before .before .before .w .given .1) (c .before .before .before .before .before .before .before .before .before .before .before .before .before .enter-corners .kept .1 .0) (c .before .before .before .before .add .ensures) (c .before .before .before .before .before .before .before .before .before .before .before .before .before .before .before .before .first-of .ensures) (c .advance-of .ensures)
+returns c =
+    let a : tie.After-add = search in
+    let w : tie.After-w = search in
+    let e : tie.After-enter-corners = search in
+    let f : tie.After-first-of = search in
+    let s : tie.Start = search in
+    enter-walked (s .args .rect) (s .args .store .now) (s .args .work .now) (s .args .c) (s .args .crossing-loc) (s .args .ip) (e .enter-corners .ensures) (w .w .given .1) (e .enter-corners .kept .1 .0) (a .add .ensures) (f .first-of .ensures) (c .advance-of .ensures)
 
 same-length-3 : tie.Need-same-length-3
 same-length-3 c = search needs
@@ -38,7 +48,11 @@ same-length-4 : tie.Need-same-length-4
 same-length-4 c = search needs
 
 returns-2 : tie.Need-returns-2
-returns-2 c = enter-refused (c .before .before .before .before .before .before .before .before .before .before .before .args .rect) (c .before .before .before .before .before .before .before .before .before .before .before .args .store .now) (c .before .before .before .before .before .before .before .before .before .before .before .args .work .now) (c .before .before .before .before .before .before .before .before .before .before .before .args .c) (c .before .before .before .before .before .before .before .before .before .before .before .args .crossing-loc) (c .before .before .before .before .before .before .before .before .before .before .before .args .ip) (c .before .before .before .before .before .before .enter-corners .ensures) (c .before .k .given .1)
+returns-2 c =
+    let k : tie.After-k = search in
+    let e : tie.After-enter-corners = search in
+    let s : tie.Start = search in
+    enter-refused (s .args .rect) (s .args .store .now) (s .args .work .now) (s .args .c) (s .args .crossing-loc) (s .args .ip) (e .enter-corners .ensures) (k .k .given .1)
 
 pub enter-spec : {M : Type 1} → statement M
 enter-spec =

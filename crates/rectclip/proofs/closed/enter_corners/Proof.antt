@@ -17,19 +17,31 @@ same-length-2 : tie.Need-same-length-2
 same-length-2 c = search needs
 
 returns : tie.Need-returns
-returns c = corners-first (c .before .before .before .before .before .before .before .before .before .args .rect) (c .before .before .before .before .before .before .before .before .before .args .store .now) (c .before .before .before .before .before .before .before .before .before .args .work .now) (c .before .before .before .before .before .before .before .before .before .args .c) (c .before .before .before .before .before .before .before .before .before .args .crossing-loc) (c .before .before .before .before .before .before .is-inside .ensures) (c .before .before .before .before .before .if1 .taken) (c .before .before .push-start-loc .ensures)
+returns c =
+    let p : tie.After-push-start-loc = search in
+    let then1 : tie.Then1 = search in
+    let i : tie.After-is-inside = search in
+    let s : tie.Start = search in
+    corners-first (s .args .rect) (s .args .store .now) (s .args .work .now) (s .args .c) (s .args .crossing-loc) (i .is-inside .ensures) (then1 .if1 .taken) (p .push-start-loc .ensures)
 
 equals-requires : tie.Need-equals-requires
 equals-requires c κs = search needs
 
 returns-2 : tie.Need-returns-2
-returns-2 c = corners-same (c .before .before .before .before .before .before .args .rect) (c .before .before .before .before .before .before .args .store .now) (c .before .before .before .before .before .before .args .work .now) (c .before .before .before .before .before .before .args .c) (c .before .before .before .before .before .before .args .crossing-loc) (c .before .before .before .is-inside .ensures) (c .before .before .before .before .before .before .pre .fits) (c .before .before .if1 .left) (c .before .equals .ensures) (c .if2 .taken)
+returns-2 c =
+    let e : tie.After-equals = search in
+    let else1 : tie.Else1 = search in
+    let i : tie.After-is-inside = search in
+    let s : tie.Start = search in
+    corners-same (s .args .rect) (s .args .store .now) (s .args .work .now) (s .args .c) (s .args .crossing-loc) (i .is-inside .ensures) (s .pre .fits) (else1 .if1 .left) (e .equals .ensures) (c .if2 .taken)
 
 goes-clockwise-requires : tie.Need-goes-clockwise-requires
 goes-clockwise-requires c κs = search needs
 
 add-corners-requires : tie.Need-add-corners-requires
-add-corners-requires c κs = corners-of (c .before .before .before .before .before .before .before .before .before .pre)
+add-corners-requires c κs =
+    let s : tie.Start = search in
+    corners-of (s .pre)
 
 same-length-3 : tie.Need-same-length-3
 same-length-3 c = search needs
@@ -38,7 +50,15 @@ same-length-4 : tie.Need-same-length-4
 same-length-4 c = search needs
 
 returns-3 : tie.Need-returns-3
-returns-3 c = corners-other (c .before .before .before .before .before .before .before .before .before .before .before .before .before .args .rect) (c .before .before .before .before .before .before .before .before .before .before .before .before .before .args .store .now) (c .before .before .before .before .before .before .before .before .before .before .before .before .before .args .work .now) (c .before .before .before .before .before .before .before .before .before .before .before .before .before .args .c) (c .before .before .before .before .before .before .before .before .before .before .before .before .before .args .crossing-loc) (c .before .before .before .before .before .before .before .before .before .before .is-inside .ensures) (c .before .before .before .before .before .before .before .before .before .if1 .left) (c .before .before .before .before .before .before .before .before .equals .ensures) (c .before .before .before .before .before .before .before .if2 .left) (c .before .before .before .before .before .before .goes-clockwise .ensures) (c .before .before .before .add-corners .ensures)
+returns-3 c =
+    let a : tie.After-add-corners = search in
+    let g : tie.After-goes-clockwise = search in
+    let else2 : tie.Else2 = search in
+    let e : tie.After-equals = search in
+    let else1 : tie.Else1 = search in
+    let i : tie.After-is-inside = search in
+    let s : tie.Start = search in
+    corners-other (s .args .rect) (s .args .store .now) (s .args .work .now) (s .args .c) (s .args .crossing-loc) (i .is-inside .ensures) (else1 .if1 .left) (e .equals .ensures) (else2 .if2 .left) (g .goes-clockwise .ensures) (a .add-corners .ensures)
 
 pub enter-corners-spec : {M : Type 1} → statement M
 enter-corners-spec =

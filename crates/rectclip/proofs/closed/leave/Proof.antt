@@ -20,7 +20,11 @@ same-length-2 : tie.Need-same-length-2
 same-length-2 c = search needs
 
 returns : tie.Need-returns
-returns c = λ rect. leave-added rect (c .before .before .before .before .before .before .before .before .before .before .args .store .now) (c .before .before .before .before .before .before .before .before .before .before .args .work .now) (c .before .before .before .before .before .before .before .before .before .before .args .c) (c .before .before .before .before .before .before .before .before .before .before .args .crossing-loc) (c .before .before .before .before .before .before .before .before .before .before .args .ip) (c .before .before .before .before .before .before .before .first-of .ensures) (c .before .before .before .before .add .ensures) (c .advance-of .ensures)
+returns c =
+    let a : tie.After-add = search in
+    let f : tie.After-first-of = search in
+    let s : tie.Start = search in
+    λ rect. leave-added rect (s .args .store .now) (s .args .work .now) (s .args .c) (s .args .crossing-loc) (s .args .ip) (f .first-of .ensures) (a .add .ensures) (c .advance-of .ensures)
 
 pub leave-spec : {M : Type 1} → statement M
 leave-spec =

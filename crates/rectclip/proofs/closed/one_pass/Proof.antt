@@ -11,7 +11,11 @@ enum-known-nx : tie.Need-enum-known-nx
 enum-known-nx c = search needs
 
 pass-from-requires : tie.Need-pass-from-requires
-pass-from-requires c κs = record { fits = c .before .before .before .before .before .before .before .before .get-next-location .ensures .fits _ (c .before .before .before .nx .given .1); sheet = c .before .before .before .before .before .before .before .before .before .before .before .before .before .pre .sheet }
+pass-from-requires c κs =
+    let n : tie.After-nx = search in
+    let g : tie.After-get-next-location = search in
+    let s : tie.Start = search in
+    record { fits = g .get-next-location .ensures .fits _ (n .nx .given .1); sheet = s .pre .sheet }
 
 enum-known-k : tie.Need-enum-known-k
 enum-known-k c = search needs
@@ -23,7 +27,12 @@ same-length-2 : tie.Need-same-length-2
 same-length-2 c = search needs
 
 returns : tie.Need-returns
-returns c = pass-went (c .before .before .before .before .before .before .before .before .before .before .before .before .before .before .before .before .before .args .rect) (c .before .before .before .before .before .before .before .before .before .before .before .before .before .before .before .before .before .args .path .now) (c .before .before .before .before .before .before .before .before .before .before .before .before .before .before .before .before .before .args .store .now) (c .before .before .before .before .before .before .before .before .before .before .before .before .before .before .before .before .before .args .work .now) (c .before .before .before .before .before .before .before .before .before .before .before .before .before .before .before .before .before .args .s) (c .before .before .before .before .before .before .before .before .before .before .before .before .get-next-location .ensures) (c .before .before .before .before .before .before .before .nx .given .1) (c .before .before .before .before .before .before .before .before .before .before .before .before .get-next-location .kept .1 .1 .0) (c .before .before .before .pass-from .ensures)
+returns c =
+    let p : tie.After-pass-from = search in
+    let n : tie.After-nx = search in
+    let g : tie.After-get-next-location = search in
+    let s : tie.Start = search in
+    pass-went (s .args .rect) (s .args .path .now) (s .args .store .now) (s .args .work .now) (s .args .s) (g .get-next-location .ensures) (n .nx .given .1) (g .get-next-location .kept .1 .1 .0) (p .pass-from .ensures)
 
 same-length-3 : tie.Need-same-length-3
 same-length-3 c = search needs
@@ -32,7 +41,11 @@ same-length-4 : tie.Need-same-length-4
 same-length-4 c = search needs
 
 returns-2 : tie.Need-returns-2
-returns-2 c = pass-lost (c .before .before .before .before .before .before .before .before .before .before .before .args .rect) (c .before .before .before .before .before .before .before .before .before .before .before .args .path .now) (c .before .before .before .before .before .before .before .before .before .before .before .args .store .now) (c .before .before .before .before .before .before .before .before .before .before .before .args .work .now) (c .before .before .before .before .before .before .before .before .before .before .before .args .s) (c .before .before .before .before .before .before .get-next-location .ensures) (c .before .k .given .1)
+returns-2 c =
+    let k : tie.After-k = search in
+    let g : tie.After-get-next-location = search in
+    let s : tie.Start = search in
+    pass-lost (s .args .rect) (s .args .path .now) (s .args .store .now) (s .args .work .now) (s .args .s) (g .get-next-location .ensures) (k .k .given .1)
 
 pub one-pass-spec : {M : Type 1} → statement M
 one-pass-spec =

@@ -17,10 +17,18 @@ same-length-2 : tie.Need-same-length-2
 same-length-2 c = search needs
 
 returns : tie.Need-returns
-returns c = corner-turned (c .before .before .before .before .before .before .before .before .before .args .rect) (c .before .before .before .before .before .before .before .before .before .args .store .now) (c .before .before .before .before .before .before .before .before .before .args .work .now) (c .before .before .before .before .before .before .before .before .before .args .s) (c .before .before .before .before .before .before .before .before .before .args .crossing-prev) (c .before .before .before .before .before .before .before .before .before .args .loc) (c .before .before .before .before .before .before .before .moves-on .ensures) (c .before .before .before .before .before .before .if1 .taken) (c .before .before .before .add-corner-prev-curr .ensures)
+returns c =
+    let a : tie.After-add-corner-prev-curr = search in
+    let then1 : tie.Then1 = search in
+    let m : tie.After-moves-on = search in
+    let s : tie.Start = search in
+    corner-turned (s .args .rect) (s .args .store .now) (s .args .work .now) (s .args .s) (s .args .crossing-prev) (s .args .loc) (m .moves-on .ensures) (then1 .if1 .taken) (a .add-corner-prev-curr .ensures)
 
 returns-2 : tie.Need-returns-2
-returns-2 c = corner-kept (c .before .before .before .args .rect) (c .before .before .before .args .store .now) (c .before .before .before .args .work .now) (c .before .before .before .args .s) (c .before .before .before .args .crossing-prev) (c .before .before .before .args .loc) (c .before .moves-on .ensures) (c .before .before .before .pre .fits) (c .if1 .left)
+returns-2 c =
+    let m : tie.After-moves-on = search in
+    let s : tie.Start = search in
+    corner-kept (s .args .rect) (s .args .store .now) (s .args .work .now) (s .args .s) (s .args .crossing-prev) (s .args .loc) (m .moves-on .ensures) (s .pre .fits) (c .if1 .left)
 
 pub pass-corner-spec : {M : Type 1} → statement M
 pass-corner-spec =

@@ -20,10 +20,16 @@ same-length-2 : tie.Need-same-length-2
 same-length-2 c = search needs
 
 returns : tie.Need-returns
-returns c = in-lost (c .before .before .before .before .before .before .before .before .before .before .args .rect) (c .before .before .before .before .before .before .before .before .before .before .args .store .now) (c .before .before .before .before .before .before .before .before .before .before .args .work .now) (c .before .before .before .before .before .before .before .before .before .before .args .c) (c .before .before .before .before .before .before .before .before .before .before .args .ip2) (c .before .before .before .before .before .before .before .before .before .before .args .loc) (c .before .before .before .before .before .pass-corner .ensures) (c .enum-told .given .1)
+returns c =
+    let p : tie.After-pass-corner = search in
+    let s : tie.Start = search in
+    in-lost (s .args .rect) (s .args .store .now) (s .args .work .now) (s .args .c) (s .args .ip2) (s .args .loc) (p .pass-corner .ensures) (c .enum-told .given .1)
 
 pass-start-requires : tie.Need-pass-start-requires
-pass-start-requires c κs = c .before .before .before .before .before .before .before .before .pass-corner .ensures .fits _ (c .before .before .before .r .given .1)
+pass-start-requires c κs =
+    let r : tie.After-r = search in
+    let p : tie.After-pass-corner = search in
+    p .pass-corner .ensures .fits _ (r .r .given .1)
 
 enum-known-q : tie.Need-enum-known-q
 enum-known-q c = search needs
@@ -38,10 +44,19 @@ same-length-4 : tie.Need-same-length-4
 same-length-4 c = search needs
 
 returns-2 : tie.Need-returns-2
-returns-2 c = in-stopped (c .before .before .before .before .before .before .before .before .before .before .before .before .before .before .before .before .before .before .args .rect) (c .before .before .before .before .before .before .before .before .before .before .before .before .before .before .before .before .before .before .args .store .now) (c .before .before .before .before .before .before .before .before .before .before .before .before .before .before .before .before .before .before .args .work .now) (c .before .before .before .before .before .before .before .before .before .before .before .before .before .before .before .before .before .before .args .c) (c .before .before .before .before .before .before .before .before .before .before .before .before .before .before .before .before .before .before .args .ip2) (c .before .before .before .before .before .before .before .before .before .before .before .before .before .before .before .before .before .before .args .loc) (c .before .before .before .before .before .before .before .before .before .before .before .before .before .pass-corner .ensures) (c .before .before .before .before .before .before .before .before .r .given .1) (c .before .before .before .before .before .before .before .before .before .before .before .before .before .pass-corner .kept .1 .0) (c .before .before .before .before .pass-start .ensures) (c .enum-told2 .given .1)
+returns-2 c =
+    let start : tie.After-pass-start = search in
+    let r : tie.After-r = search in
+    let corner : tie.After-pass-corner = search in
+    let s : tie.Start = search in
+    in-stopped (s .args .rect) (s .args .store .now) (s .args .work .now) (s .args .c) (s .args .ip2) (s .args .loc) (corner .pass-corner .ensures) (r .r .given .1) (corner .pass-corner .kept .1 .0) (start .pass-start .ensures) (c .enum-told2 .given .1)
 
 add-requires : tie.Need-add-requires
-add-requires c κs = record { fits = c .before .before .before .before .before .before .before .pass-start .ensures .fits _ (c .before .before .before .q .given .1); close = c .before .before .before .before .before .before .before .before .before .before .before .before .before .before .before .before .before .before .before .before .before .pre .close }
+add-requires c κs =
+    let s : tie.Start = search in
+    let q : tie.After-q = search in
+    let p : tie.After-pass-start = search in
+    record { fits = p .pass-start .ensures .fits _ (q .q .given .1); close = s .pre .close }
 
 same-length-5 : tie.Need-same-length-5
 same-length-5 c = search needs
@@ -50,7 +65,14 @@ same-length-6 : tie.Need-same-length-6
 same-length-6 c = search needs
 
 returns-3 : tie.Need-returns-3
-returns-3 c = in-added (c .before .before .before .before .before .before .before .before .before .before .before .before .before .before .before .before .before .before .before .before .before .before .before .before .before .args .rect) (c .before .before .before .before .before .before .before .before .before .before .before .before .before .before .before .before .before .before .before .before .before .before .before .before .before .args .store .now) (c .before .before .before .before .before .before .before .before .before .before .before .before .before .before .before .before .before .before .before .before .before .before .before .before .before .args .work .now) (c .before .before .before .before .before .before .before .before .before .before .before .before .before .before .before .before .before .before .before .before .before .before .before .before .before .args .c) (c .before .before .before .before .before .before .before .before .before .before .before .before .before .before .before .before .before .before .before .before .before .before .before .before .before .args .ip2) (c .before .before .before .before .before .before .before .before .before .before .before .before .before .before .before .before .before .before .before .before .before .before .before .before .before .args .loc) (c .before .before .before .before .before .before .before .before .before .before .before .before .before .before .before .before .before .before .before .before .pass-corner .ensures) (c .before .before .before .before .before .before .before .before .before .before .before .before .before .before .before .r .given .1) (c .before .before .before .before .before .before .before .before .before .before .before .before .before .before .before .before .before .before .before .before .pass-corner .kept .1 .0) (c .before .before .before .before .before .before .before .before .before .before .before .pass-start .ensures) (c .before .before .before .before .before .before .before .q .given .1) (c .before .before .before .add .ensures)
+returns-3 c =
+    let a : tie.After-add = search in
+    let q : tie.After-q = search in
+    let start : tie.After-pass-start = search in
+    let r : tie.After-r = search in
+    let corner : tie.After-pass-corner = search in
+    let s : tie.Start = search in
+    in-added (s .args .rect) (s .args .store .now) (s .args .work .now) (s .args .c) (s .args .ip2) (s .args .loc) (corner .pass-corner .ensures) (r .r .given .1) (corner .pass-corner .kept .1 .0) (start .pass-start .ensures) (q .q .given .1) (a .add .ensures)
 
 pub pass-in-spec : {M : Type 1} → statement M
 pass-in-spec =

@@ -23,7 +23,13 @@ same-length-2 : tie.Need-same-length-2
 same-length-2 c = search needs
 
 returns : tie.Need-returns
-returns c = out-turned (c .before .before .before .before .before .before .before .before .before .before .before .before .args .rect) (c .before .before .before .before .before .before .before .before .before .before .before .before .args .store .now) (c .before .before .before .before .before .before .before .before .before .before .before .before .args .work .now) (c .before .before .before .before .before .before .before .before .before .before .before .before .args .at) (c .before .before .before .before .before .before .before .before .before .before .before .before .args .pt) (c .before .before .before .before .before .before .before .before .before .before .before .before .args .ip) (c .before .before .before .before .before .before .before .before .before .before .before .before .args .ip2) (c .before .before .before .before .before .before .before .before .before .before .before .before .args .first) (c .before .before .before .before .before .before .before .before .before .equals .ensures) (c .before .before .before .before .before .before .before .before .if1 .taken) (c .before .before .before .before .before .before .before .get-location .ensures) (c .before .before .before .before .add-corner-prev-curr .ensures) (c .advance-of .ensures)
+returns c =
+    let a : tie.After-add-corner-prev-curr = search in
+    let g : tie.After-get-location = search in
+    let then1 : tie.Then1 = search in
+    let e : tie.After-equals = search in
+    let s : tie.Start = search in
+    out-turned (s .args .rect) (s .args .store .now) (s .args .work .now) (s .args .at) (s .args .pt) (s .args .ip) (s .args .ip2) (s .args .first) (e .equals .ensures) (then1 .if1 .taken) (g .get-location .ensures) (a .add-corner-prev-curr .ensures) (c .advance-of .ensures)
 
 add-requires : tie.Need-add-requires
 add-requires c κs = search needs
@@ -38,7 +44,12 @@ same-length-4 : tie.Need-same-length-4
 same-length-4 c = search needs
 
 returns-2 : tie.Need-returns-2
-returns-2 c = out-added (c .before .before .before .before .before .before .before .before .before .before .before .args .rect) (c .before .before .before .before .before .before .before .before .before .before .before .args .store .now) (c .before .before .before .before .before .before .before .before .before .before .before .args .work .now) (c .before .before .before .before .before .before .before .before .before .before .before .args .at) (c .before .before .before .before .before .before .before .before .before .before .before .args .pt) (c .before .before .before .before .before .before .before .before .before .before .before .args .ip) (c .before .before .before .before .before .before .before .before .before .before .before .args .ip2) (c .before .before .before .before .before .before .before .before .before .before .before .args .first) (c .before .before .before .before .before .before .before .before .equals .ensures) (c .before .before .before .before .before .before .before .if1 .left) (c .before .before .before .before .add .ensures) (c .advance-of2 .ensures)
+returns-2 c =
+    let a : tie.After-add = search in
+    let else1 : tie.Else1 = search in
+    let e : tie.After-equals = search in
+    let s : tie.Start = search in
+    out-added (s .args .rect) (s .args .store .now) (s .args .work .now) (s .args .at) (s .args .pt) (s .args .ip) (s .args .ip2) (s .args .first) (e .equals .ensures) (else1 .if1 .left) (a .add .ensures) (c .advance-of2 .ensures)
 
 pub pass-out-spec : {M : Type 1} → statement M
 pass-out-spec =

@@ -15,10 +15,18 @@ same-length : tie.Need-same-length
 same-length c = search needs
 
 returns : tie.Need-returns
-returns c = start-pushed no-bounds (c .before .before .before .before .before .before .before .args .store .now) (c .before .before .before .before .before .before .before .args .work .now) (c .before .before .before .before .before .before .before .args .s) (c .before .before .before .before .before .before .before .args .first-cross) (c .before .before .before .before .before .before .before .args .prev) (c .before .before .before .before .before .is-inside .ensures) (c .before .before .before .before .if1 .taken) (c .before .before .push-start-loc .ensures)
+returns c =
+    let p : tie.After-push-start-loc = search in
+    let then1 : tie.Then1 = search in
+    let i : tie.After-is-inside = search in
+    let s : tie.Start = search in
+    start-pushed no-bounds (s .args .store .now) (s .args .work .now) (s .args .s) (s .args .first-cross) (s .args .prev) (i .is-inside .ensures) (then1 .if1 .taken) (p .push-start-loc .ensures)
 
 returns-2 : tie.Need-returns-2
-returns-2 c = start-kept no-bounds (c .before .before .before .args .store .now) (c .before .before .before .args .work .now) (c .before .before .before .args .s) (c .before .before .before .args .first-cross) (c .before .before .before .args .prev) (c .before .is-inside .ensures) (c .before .before .before .pre) (c .if1 .left)
+returns-2 c =
+    let i : tie.After-is-inside = search in
+    let s : tie.Start = search in
+    start-kept no-bounds (s .args .store .now) (s .args .work .now) (s .args .s) (s .args .first-cross) (s .args .prev) (i .is-inside .ensures) (s .pre) (c .if1 .left)
 
 pub pass-start-spec : {M : Type 1} → statement M
 pass-start-spec =

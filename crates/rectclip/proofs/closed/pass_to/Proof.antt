@@ -8,13 +8,19 @@ first-of-requires : tie.Need-first-of-requires
 first-of-requires c κs = search needs
 
 pass-in-requires : tie.Need-pass-in-requires
-pass-in-requires c κs = record { passing = c .before .before .before .before .before .pre .leaves .passing; close = c .before .before .before .before .before .pre .enters }
+pass-in-requires c κs =
+    let s : tie.Start = search in
+    record { passing = s .pre .leaves .passing; close = s .pre .enters }
 
 enum-known-walk : tie.Need-enum-known-walk
 enum-known-walk c = search needs
 
 pass-out-requires : tie.Need-pass-out-requires
-pass-out-requires c κs = record { corners = record { fits = c .before .before .before .before .before .before .before .before .pass-in .ensures .fits _ (c .before .before .before .walk .given .1); limit = c .before .before .before .before .before .before .before .before .before .before .before .before .before .before .pre .leaves .passing .closes .frame }; close = c .before .before .before .before .before .before .before .before .before .before .before .before .before .before .pre .leaves .close }
+pass-out-requires c κs =
+    let w : tie.After-walk = search in
+    let p : tie.After-pass-in = search in
+    let s : tie.Start = search in
+    record { corners = record { fits = p .pass-in .ensures .fits _ (w .walk .given .1); limit = s .pre .leaves .passing .closes .frame }; close = s .pre .leaves .close }
 
 enum-known-k : tie.Need-enum-known-k
 enum-known-k c = search needs
@@ -26,7 +32,13 @@ same-length-2 : tie.Need-same-length-2
 same-length-2 c = search needs
 
 returns : tie.Need-returns
-returns c = to-out (c .before .before .before .before .before .before .before .before .before .before .before .before .before .before .before .before .before .before .args .rect) (c .before .before .before .before .before .before .before .before .before .before .before .before .before .before .before .before .before .before .args .store .now) (c .before .before .before .before .before .before .before .before .before .before .before .before .before .before .before .before .before .before .args .work .now) (c .before .before .before .before .before .before .before .before .before .before .before .before .before .before .before .before .before .before .args .c) (c .before .before .before .before .before .before .before .before .before .before .before .before .before .before .before .before .before .before .args .ip) (c .before .before .before .before .before .before .before .before .before .before .before .before .before .before .before .before .before .before .args .crossing-loc) (c .before .before .before .before .before .before .before .before .before .before .before .before .before .before .before .before .before .before .args .ip2) (c .before .before .before .before .before .before .before .before .before .before .before .before .before .before .before .before .before .before .args .loc) (c .before .before .before .before .before .before .before .before .before .before .before .before .pass-in .ensures) (c .before .before .before .before .before .before .before .walk .given .1) (c .before .before .before .before .before .before .before .before .before .before .before .before .pass-in .kept .1 .0) (c .before .before .before .before .before .before .before .before .before .before .before .before .before .before .before .first-of .ensures) (c .before .before .before .pass-out .ensures)
+returns c =
+    let out : tie.After-pass-out = search in
+    let w : tie.After-walk = search in
+    let pass-in : tie.After-pass-in = search in
+    let f : tie.After-first-of = search in
+    let s : tie.Start = search in
+    to-out (s .args .rect) (s .args .store .now) (s .args .work .now) (s .args .c) (s .args .ip) (s .args .crossing-loc) (s .args .ip2) (s .args .loc) (pass-in .pass-in .ensures) (w .walk .given .1) (pass-in .pass-in .kept .1 .0) (f .first-of .ensures) (out .pass-out .ensures)
 
 same-length-3 : tie.Need-same-length-3
 same-length-3 c = search needs
@@ -35,7 +47,11 @@ same-length-4 : tie.Need-same-length-4
 same-length-4 c = search needs
 
 returns-2 : tie.Need-returns-2
-returns-2 c = to-lost (c .before .before .before .before .before .before .before .before .before .before .before .before .args .rect) (c .before .before .before .before .before .before .before .before .before .before .before .before .args .store .now) (c .before .before .before .before .before .before .before .before .before .before .before .before .args .work .now) (c .before .before .before .before .before .before .before .before .before .before .before .before .args .c) (c .before .before .before .before .before .before .before .before .before .before .before .before .args .ip) (c .before .before .before .before .before .before .before .before .before .before .before .before .args .crossing-loc) (c .before .before .before .before .before .before .before .before .before .before .before .before .args .ip2) (c .before .before .before .before .before .before .before .before .before .before .before .before .args .loc) (c .before .before .before .before .before .before .pass-in .ensures) (c .before .k .given .1)
+returns-2 c =
+    let k : tie.After-k = search in
+    let p : tie.After-pass-in = search in
+    let s : tie.Start = search in
+    to-lost (s .args .rect) (s .args .store .now) (s .args .work .now) (s .args .c) (s .args .ip) (s .args .crossing-loc) (s .args .ip2) (s .args .loc) (p .pass-in .ensures) (k .k .given .1)
 
 pub pass-to-spec : {M : Type 1} → statement M
 pass-to-spec =

@@ -28,7 +28,10 @@ returns : tie.Need-returns Inv-loop μ-loop
 returns c = passes-past (c .before .before .loop .inv) (c .before .loop-test .taken) (c .if1 .taken)
 
 one-pass-requires : tie.Need-one-pass-requires Inv-loop μ-loop
-one-pass-requires c κs = record { fits = c .before .before .before .before .loop .inv .going .fits; sheet = c .before .before .before .before .before .before .pre .sheet }
+one-pass-requires c κs =
+    let h : tie.At-loop Inv-loop μ-loop = search in
+    let s : tie.Start Inv-loop μ-loop = search in
+    record { fits = h .loop .inv .going .fits; sheet = s .pre .sheet }
 
 enum-known-r : tie.Need-enum-known-r Inv-loop μ-loop
 enum-known-r c = search needs
@@ -37,13 +40,24 @@ enum-told : tie.Need-enum-told Inv-loop μ-loop
 enum-told c = search needs
 
 same-length-3 : tie.Need-same-length-3 Inv-loop μ-loop
-same-length-3 c = c .before .before .before .before .before .one-pass .kept .1 .1 .0 ∙ c .before .before .before .before .before .before .before .before .before .before .loop .inv .going .store-kept
+same-length-3 c =
+    let o : tie.After-one-pass Inv-loop μ-loop = search in
+    let h : tie.At-loop Inv-loop μ-loop = search in
+    o .one-pass .kept .1 .1 .0 ∙ h .loop .inv .going .store-kept
 
 same-length-4 : tie.Need-same-length-4 Inv-loop μ-loop
-same-length-4 c = c .before .before .before .before .before .one-pass .kept .1 .1 .1 .0 ∙ c .before .before .before .before .before .before .before .before .before .before .loop .inv .going .work-kept
+same-length-4 c =
+    let o : tie.After-one-pass Inv-loop μ-loop = search in
+    let h : tie.At-loop Inv-loop μ-loop = search in
+    o .one-pass .kept .1 .1 .1 .0 ∙ h .loop .inv .going .work-kept
 
 returns-2 : tie.Need-returns-2 Inv-loop μ-loop
-returns-2 c = passes-lost (c .before .before .before .before .before .before .before .before .before .before .loop .inv) (c .before .before .before .before .before .before .before .before .before .loop-test .taken) (c .before .before .before .before .before .before .before .before .if1 .left) (c .before .before .before .before .before .one-pass .ensures) _ (c .enum-told .given .1)
+returns-2 c =
+    let o : tie.After-one-pass Inv-loop μ-loop = search in
+    let else1 : tie.Else1 Inv-loop μ-loop = search in
+    let t : tie.In-loop Inv-loop μ-loop = search in
+    let h : tie.At-loop Inv-loop μ-loop = search in
+    passes-lost (h .loop .inv) (t .loop-test .taken) (else1 .if1 .left) (o .one-pass .ensures) _ (c .enum-told .given .1)
 
 sub-left : tie.Need-sub-left Inv-loop μ-loop
 sub-left c = search needs
@@ -52,7 +66,13 @@ loop-less : tie.Need-loop-less Inv-loop μ-loop
 loop-less c = search needs
 
 loop-again : tie.Need-loop-again Inv-loop μ-loop
-loop-again c = passes-again (c .before .before .before .before .before .before .before .before .before .before .before .loop .inv) (c .before .before .before .before .before .before .before .before .before .before .loop-test .taken) (c .before .before .before .before .before .before .before .before .before .if1 .left) (c .before .before .before .before .before .before .one-pass .ensures) _ (c .before .r .given .1) (c .before .before .before .before .before .before .one-pass .kept .1 .1 .0) (c .before .before .before .before .before .before .one-pass .kept .1 .1 .1 .0)
+loop-again c =
+    let r : tie.After-r Inv-loop μ-loop = search in
+    let o : tie.After-one-pass Inv-loop μ-loop = search in
+    let else1 : tie.Else1 Inv-loop μ-loop = search in
+    let t : tie.In-loop Inv-loop μ-loop = search in
+    let h : tie.At-loop Inv-loop μ-loop = search in
+    passes-again (h .loop .inv) (t .loop-test .taken) (else1 .if1 .left) (o .one-pass .ensures) _ (r .r .given .1) (o .one-pass .kept .1 .1 .0) (o .one-pass .kept .1 .1 .1 .0)
 
 same-length-5 : tie.Need-same-length-5 Inv-loop μ-loop
 same-length-5 c = c .before .loop .inv .going .store-kept

@@ -26,7 +26,13 @@ same-length-2 : tie.Need-same-length-2
 same-length-2 c = search needs
 
 returns : tie.Need-returns
-returns c = remain-starts (c .before .before .before .before .before .before .before .before .before .before .before .before .args .rect) (c .before .before .before .before .before .before .before .before .before .before .before .before .args .store .now) (c .before .before .before .before .before .before .before .before .before .before .before .before .args .work .now) (c .before .before .before .before .before .before .before .before .before .before .before .before .args .c) (c .before .before .before .before .before .before .before .before .is-inside .ensures) (c .before .before .before .before .before .before .before .if1 .taken) (c .before .before .before .before .goes-clockwise .ensures) (c .before .before .before .push-start-locs .ensures) (c .advance-of .ensures)
+returns c =
+    let p : tie.After-push-start-locs = search in
+    let g : tie.After-goes-clockwise = search in
+    let then1 : tie.Then1 = search in
+    let i : tie.After-is-inside = search in
+    let s : tie.Start = search in
+    remain-starts (s .args .rect) (s .args .store .now) (s .args .work .now) (s .args .c) (i .is-inside .ensures) (then1 .if1 .taken) (g .goes-clockwise .ensures) (p .push-start-locs .ensures) (c .advance-of .ensures)
 
 moves-on-requires : tie.Need-moves-on-requires
 moves-on-requires c κs = search needs
@@ -35,7 +41,9 @@ goes-clockwise-requires-2 : tie.Need-goes-clockwise-requires-2
 goes-clockwise-requires-2 c κs = search needs
 
 add-corners-requires : tie.Need-add-corners-requires
-add-corners-requires c κs = corners-of (c .before .before .before .before .before .before .before .before .before .before .pre)
+add-corners-requires c κs =
+    let s : tie.Start = search in
+    corners-of (s .pre)
 
 advance-of-requires-2 : tie.Need-advance-of-requires-2
 advance-of-requires-2 c κs = search needs
@@ -47,13 +55,27 @@ same-length-4 : tie.Need-same-length-4
 same-length-4 c = search needs
 
 returns-2 : tie.Need-returns-2
-returns-2 c = remain-corners (c .before .before .before .before .before .before .before .before .before .before .before .before .before .before .before .args .rect) (c .before .before .before .before .before .before .before .before .before .before .before .before .before .before .before .args .store .now) (c .before .before .before .before .before .before .before .before .before .before .before .before .before .before .before .args .work .now) (c .before .before .before .before .before .before .before .before .before .before .before .before .before .before .before .args .c) (c .before .before .before .before .before .before .before .before .before .before .before .is-inside .ensures) (c .before .before .before .before .before .before .before .before .before .before .if1 .left) (c .before .before .before .before .before .before .before .before .before .moves-on .ensures) (c .before .before .before .before .before .before .before .before .if2 .taken) (c .before .before .before .before .before .goes-clockwise2 .ensures) (c .before .before .before .before .add-corners .ensures) (c .advance-of2 .ensures)
+returns-2 c =
+    let a : tie.After-add-corners = search in
+    let g2 : tie.After-goes-clockwise2 = search in
+    let then2 : tie.Then2 = search in
+    let m : tie.After-moves-on = search in
+    let else1 : tie.Else1 = search in
+    let i : tie.After-is-inside = search in
+    let s : tie.Start = search in
+    remain-corners (s .args .rect) (s .args .store .now) (s .args .work .now) (s .args .c) (i .is-inside .ensures) (else1 .if1 .left) (m .moves-on .ensures) (then2 .if2 .taken) (g2 .goes-clockwise2 .ensures) (a .add-corners .ensures) (c .advance-of2 .ensures)
 
 advance-of-requires-3 : tie.Need-advance-of-requires-3
 advance-of-requires-3 c κs = search needs
 
 returns-3 : tie.Need-returns-3
-returns-3 c = remain-stays (c .before .before .before .before .before .before .before .before .args .rect) (c .before .before .before .before .before .before .before .before .args .store .now) (c .before .before .before .before .before .before .before .before .args .work .now) (c .before .before .before .before .before .before .before .before .args .c) (c .before .before .before .before .before .before .before .before .pre .fits) (c .before .before .before .before .is-inside .ensures) (c .before .before .before .if1 .left) (c .before .before .moves-on .ensures) (c .before .if2 .left) (c .advance-of3 .ensures)
+returns-3 c =
+    let else2 : tie.Else2 = search in
+    let m : tie.After-moves-on = search in
+    let else1 : tie.Else1 = search in
+    let i : tie.After-is-inside = search in
+    let s : tie.Start = search in
+    remain-stays (s .args .rect) (s .args .store .now) (s .args .work .now) (s .args .c) (s .pre .fits) (i .is-inside .ensures) (else1 .if1 .left) (m .moves-on .ensures) (else2 .if2 .left) (c .advance-of3 .ensures)
 
 pub remain-outside-spec : {M : Type 1} → statement M
 remain-outside-spec =

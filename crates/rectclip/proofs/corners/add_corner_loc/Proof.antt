@@ -17,7 +17,11 @@ same-length-2 : tie.Need-same-length-2
 same-length-2 c = search needs
 
 returns : tie.Need-returns
-returns c = rw (c .before .before .before .before .before .before .before .if1 .taken, ← c .before .before .before .before .corner .ensures) (c .before .before .before .add .ensures)
+returns c =
+    let a : tie.After-add = search in
+    let corner : tie.After-corner = search in
+    let then1 : tie.Then1 = search in
+    rw (then1 .if1 .taken, ← corner .corner .ensures) (a .add .ensures)
 
 get-adjacent-location-requires : tie.Need-get-adjacent-location-requires
 get-adjacent-location-requires c κs = search needs
@@ -35,7 +39,14 @@ same-length-4 : tie.Need-same-length-4
 same-length-4 c = search needs
 
 returns-2 : tie.Need-returns-2
-returns-2 c = let e = c .before .before .before .before .corner2 .ensures in let f = c .before .before .before .before .before .get-adjacent-location .ensures in rw (c .before .before .before .before .before .before .before .before .if1 .left) (rw (e, f, c .before .before .before .before .before .before .before .before .if1 .left) at (c .before .before .before .add2 .ensures))
+returns-2 c =
+    let a2 : tie.After-add2 = search in
+    let corner2 : tie.After-corner2 = search in
+    let g : tie.After-get-adjacent-location = search in
+    let else1 : tie.Else1 = search in
+    let e = corner2 .corner2 .ensures in
+    let f = g .get-adjacent-location .ensures in
+    rw (else1 .if1 .left) (rw (e, f, else1 .if1 .left) at (a2 .add2 .ensures))
 
 pub add-corner-loc-spec : {M : Type 1} → statement M
 add-corner-loc-spec =

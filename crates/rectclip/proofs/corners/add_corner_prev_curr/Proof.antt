@@ -23,7 +23,12 @@ same-length-2 c = search needs
 
 returns : tie.Need-returns
 unfolding add-corner-prev-curr
-returns c = rw (sym (c .before .before .before .before .before .before .before .before .heading-clockwise .ensures) ∙ c .before .before .before .before .before .before .before .if1 .taken, ← c .before .before .before .before .corner .ensures) (c .before .before .before .add .ensures)
+returns c =
+    let a : tie.After-add = search in
+    let corner : tie.After-corner = search in
+    let then1 : tie.Then1 = search in
+    let h : tie.After-heading-clockwise = search in
+    rw (sym (h .heading-clockwise .ensures) ∙ then1 .if1 .taken, ← corner .corner .ensures) (a .add .ensures)
 
 corner-requires-2 : tie.Need-corner-requires-2
 corner-requires-2 c κs = search needs
@@ -39,7 +44,12 @@ same-length-4 c = search needs
 
 returns-2 : tie.Need-returns-2
 unfolding add-corner-prev-curr
-returns-2 c = rw (sym (c .before .before .before .before .before .before .before .before .heading-clockwise .ensures) ∙ c .before .before .before .before .before .before .before .if1 .left, ← c .before .before .before .before .corner2 .ensures) (c .before .before .before .add2 .ensures)
+returns-2 c =
+    let a2 : tie.After-add2 = search in
+    let corner2 : tie.After-corner2 = search in
+    let else1 : tie.Else1 = search in
+    let h : tie.After-heading-clockwise = search in
+    rw (sym (h .heading-clockwise .ensures) ∙ else1 .if1 .left, ← corner2 .corner2 .ensures) (a2 .add2 .ensures)
 
 pub add-corner-prev-curr-spec : {M : Type 1} → statement M
 add-corner-prev-curr-spec =

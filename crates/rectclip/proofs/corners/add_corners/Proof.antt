@@ -27,13 +27,23 @@ enum-told : tie.Need-enum-told Inv-loop μ-loop
 enum-told c = search needs
 
 same-length : tie.Need-same-length Inv-loop μ-loop
-same-length c = c .before .before .before .before .before .add-corner-loc .kept .1 .0 ∙ c .before .before .before .before .before .before .before .before .before .loop .inv .going .store-kept
+same-length c =
+    let a : tie.After-add-corner-loc Inv-loop μ-loop = search in
+    let h : tie.At-loop Inv-loop μ-loop = search in
+    a .add-corner-loc .kept .1 .0 ∙ h .loop .inv .going .store-kept
 
 same-length-2 : tie.Need-same-length-2 Inv-loop μ-loop
-same-length-2 c = c .before .before .before .before .before .add-corner-loc .kept .1 .1 .0 ∙ c .before .before .before .before .before .before .before .before .before .loop .inv .going .work-kept
+same-length-2 c =
+    let a : tie.After-add-corner-loc Inv-loop μ-loop = search in
+    let h : tie.At-loop Inv-loop μ-loop = search in
+    a .add-corner-loc .kept .1 .1 .0 ∙ h .loop .inv .going .work-kept
 
 returns : tie.Need-returns Inv-loop μ-loop
-returns c = round-lost (corner-round _ _ _) (c .before .before .before .before .before .before .before .before .before .loop .inv) (c .before .before .before .before .before .before .before .before .loop-test .taken) (c .before .before .before .before .before .add-corner-loc .ensures) _ (c .enum-told .given .1)
+returns c =
+    let a : tie.After-add-corner-loc Inv-loop μ-loop = search in
+    let t : tie.In-loop Inv-loop μ-loop = search in
+    let h : tie.At-loop Inv-loop μ-loop = search in
+    round-lost (corner-round _ _ _) (h .loop .inv) (t .loop-test .taken) (a .add-corner-loc .ensures) _ (c .enum-told .given .1)
 
 get-adjacent-location-requires : tie.Need-get-adjacent-location-requires Inv-loop μ-loop
 get-adjacent-location-requires c κs = search needs
@@ -42,13 +52,26 @@ equals-requires : tie.Need-equals-requires Inv-loop μ-loop
 equals-requires c κs = search needs
 
 same-length-3 : tie.Need-same-length-3 Inv-loop μ-loop
-same-length-3 c = c .before .before .before .before .before .before .before .before .before .add-corner-loc .kept .1 .0 ∙ c .before .before .before .before .before .before .before .before .before .before .before .before .before .loop .inv .going .store-kept
+same-length-3 c =
+    let a : tie.After-add-corner-loc Inv-loop μ-loop = search in
+    let h : tie.At-loop Inv-loop μ-loop = search in
+    a .add-corner-loc .kept .1 .0 ∙ h .loop .inv .going .store-kept
 
 same-length-4 : tie.Need-same-length-4 Inv-loop μ-loop
-same-length-4 c = c .before .before .before .before .before .before .before .before .before .add-corner-loc .kept .1 .1 .0 ∙ c .before .before .before .before .before .before .before .before .before .before .before .before .before .loop .inv .going .work-kept
+same-length-4 c =
+    let a : tie.After-add-corner-loc Inv-loop μ-loop = search in
+    let h : tie.At-loop Inv-loop μ-loop = search in
+    a .add-corner-loc .kept .1 .1 .0 ∙ h .loop .inv .going .work-kept
 
 returns-2 : tie.Need-returns-2 Inv-loop μ-loop
-returns-2 c = round-met (corner-round _ _ _) (c .before .before .before .before .before .before .before .before .before .before .before .before .before .loop .inv) (c .before .before .before .before .before .before .before .before .before .before .before .before .loop-test .taken) (c .before .before .before .before .before .before .before .before .before .add-corner-loc .ensures) _ (c .before .before .before .before .r .given .1) (c .before .before .get-adjacent-location .ensures) (c .before .equals .ensures) (c .if1 .taken)
+returns-2 c =
+    let e : tie.After-equals Inv-loop μ-loop = search in
+    let g : tie.After-get-adjacent-location Inv-loop μ-loop = search in
+    let r : tie.After-r Inv-loop μ-loop = search in
+    let a : tie.After-add-corner-loc Inv-loop μ-loop = search in
+    let t : tie.In-loop Inv-loop μ-loop = search in
+    let h : tie.At-loop Inv-loop μ-loop = search in
+    round-met (corner-round _ _ _) (h .loop .inv) (t .loop-test .taken) (a .add-corner-loc .ensures) _ (r .r .given .1) (g .get-adjacent-location .ensures) (e .equals .ensures) (c .if1 .taken)
 
 sub-left : tie.Need-sub-left Inv-loop μ-loop
 sub-left c = search needs
@@ -57,7 +80,14 @@ loop-less : tie.Need-loop-less Inv-loop μ-loop
 loop-less c = search needs
 
 loop-again : tie.Need-loop-again Inv-loop μ-loop
-loop-again c = round-again (corner-round _ _ _) (c .before .before .before .before .before .before .before .before .before .before .before .before .before .loop .inv) (c .before .before .before .before .before .before .before .before .before .before .before .before .loop-test .taken) (c .before .before .before .before .before .before .before .before .before .add-corner-loc .ensures) _ (c .before .before .before .before .r .given .1) (c .before .before .get-adjacent-location .ensures) (c .before .equals .ensures) (c .if1 .left) (c .before .before .before .before .before .before .before .before .before .add-corner-loc .kept .1 .0) (c .before .before .before .before .before .before .before .before .before .add-corner-loc .kept .1 .1 .0)
+loop-again c =
+    let e : tie.After-equals Inv-loop μ-loop = search in
+    let g : tie.After-get-adjacent-location Inv-loop μ-loop = search in
+    let r : tie.After-r Inv-loop μ-loop = search in
+    let a : tie.After-add-corner-loc Inv-loop μ-loop = search in
+    let t : tie.In-loop Inv-loop μ-loop = search in
+    let h : tie.At-loop Inv-loop μ-loop = search in
+    round-again (corner-round _ _ _) (h .loop .inv) (t .loop-test .taken) (a .add-corner-loc .ensures) _ (r .r .given .1) (g .get-adjacent-location .ensures) (e .equals .ensures) (c .if1 .left) (a .add-corner-loc .kept .1 .0) (a .add-corner-loc .kept .1 .1 .0)
 
 same-length-5 : tie.Need-same-length-5 Inv-loop μ-loop
 same-length-5 c = c .before .loop .inv .going .store-kept

@@ -28,10 +28,17 @@ enum-told : tie.Need-enum-told Inv-loop μ-loop
 enum-told c = search needs
 
 same-length : tie.Need-same-length Inv-loop μ-loop
-same-length c = c .before .before .before .before .push-start-loc .kept .1 .0 ∙ c .before .before .before .before .before .before .before .loop .inv .going .work-kept
+same-length c =
+    let p : tie.After-push-start-loc Inv-loop μ-loop = search in
+    let h : tie.At-loop Inv-loop μ-loop = search in
+    p .push-start-loc .kept .1 .0 ∙ h .loop .inv .going .work-kept
 
 returns : tie.Need-returns Inv-loop μ-loop
-returns c = λ rect. rw (sides-any _ rect no-bounds) (round-lost (side-round no-bounds _ _) (c .before .before .before .before .before .before .before .loop .inv) (c .before .before .before .before .before .before .loop-test .taken) (c .before .before .before .before .push-start-loc .ensures) _ (c .enum-told .given .1))
+returns c =
+    let p : tie.After-push-start-loc Inv-loop μ-loop = search in
+    let t : tie.In-loop Inv-loop μ-loop = search in
+    let h : tie.At-loop Inv-loop μ-loop = search in
+    λ rect. rw (sides-any _ rect no-bounds) (round-lost (side-round no-bounds _ _) (h .loop .inv) (t .loop-test .taken) (p .push-start-loc .ensures) _ (c .enum-told .given .1))
 
 get-adjacent-location-requires : tie.Need-get-adjacent-location-requires Inv-loop μ-loop
 get-adjacent-location-requires c κs = search needs
@@ -40,10 +47,20 @@ equals-requires : tie.Need-equals-requires Inv-loop μ-loop
 equals-requires c κs = search needs
 
 same-length-2 : tie.Need-same-length-2 Inv-loop μ-loop
-same-length-2 c = c .before .before .before .before .before .before .before .before .push-start-loc .kept .1 .0 ∙ c .before .before .before .before .before .before .before .before .before .before .before .loop .inv .going .work-kept
+same-length-2 c =
+    let p : tie.After-push-start-loc Inv-loop μ-loop = search in
+    let h : tie.At-loop Inv-loop μ-loop = search in
+    p .push-start-loc .kept .1 .0 ∙ h .loop .inv .going .work-kept
 
 returns-2 : tie.Need-returns-2 Inv-loop μ-loop
-returns-2 c = λ rect. rw (sides-any _ rect no-bounds) (round-met (side-round no-bounds _ _) (c .before .before .before .before .before .before .before .before .before .before .before .loop .inv) (c .before .before .before .before .before .before .before .before .before .before .loop-test .taken) (c .before .before .before .before .before .before .before .before .push-start-loc .ensures) _ (c .before .before .before .before .r .given .1) (c .before .before .get-adjacent-location .ensures) (c .before .equals .ensures) (c .if1 .taken))
+returns-2 c =
+    let e : tie.After-equals Inv-loop μ-loop = search in
+    let g : tie.After-get-adjacent-location Inv-loop μ-loop = search in
+    let r : tie.After-r Inv-loop μ-loop = search in
+    let p : tie.After-push-start-loc Inv-loop μ-loop = search in
+    let t : tie.In-loop Inv-loop μ-loop = search in
+    let h : tie.At-loop Inv-loop μ-loop = search in
+    λ rect. rw (sides-any _ rect no-bounds) (round-met (side-round no-bounds _ _) (h .loop .inv) (t .loop-test .taken) (p .push-start-loc .ensures) _ (r .r .given .1) (g .get-adjacent-location .ensures) (e .equals .ensures) (c .if1 .taken))
 
 sub-left : tie.Need-sub-left Inv-loop μ-loop
 sub-left c = search needs
@@ -52,7 +69,14 @@ loop-less : tie.Need-loop-less Inv-loop μ-loop
 loop-less c = search needs
 
 loop-again : tie.Need-loop-again Inv-loop μ-loop
-loop-again c = round-again (side-round no-bounds _ _) (c .before .before .before .before .before .before .before .before .before .before .before .loop .inv) (c .before .before .before .before .before .before .before .before .before .before .loop-test .taken) (c .before .before .before .before .before .before .before .before .push-start-loc .ensures) _ (c .before .before .before .before .r .given .1) (c .before .before .get-adjacent-location .ensures) (c .before .equals .ensures) (c .if1 .left) (refl) (c .before .before .before .before .before .before .before .before .push-start-loc .kept .1 .0)
+loop-again c =
+    let e : tie.After-equals Inv-loop μ-loop = search in
+    let g : tie.After-get-adjacent-location Inv-loop μ-loop = search in
+    let r : tie.After-r Inv-loop μ-loop = search in
+    let p : tie.After-push-start-loc Inv-loop μ-loop = search in
+    let t : tie.In-loop Inv-loop μ-loop = search in
+    let h : tie.At-loop Inv-loop μ-loop = search in
+    round-again (side-round no-bounds _ _) (h .loop .inv) (t .loop-test .taken) (p .push-start-loc .ensures) _ (r .r .given .1) (g .get-adjacent-location .ensures) (e .equals .ensures) (c .if1 .left) (refl) (p .push-start-loc .kept .1 .0)
 
 same-length-3 : tie.Need-same-length-3 Inv-loop μ-loop
 same-length-3 c = c .before .loop .inv .going .work-kept

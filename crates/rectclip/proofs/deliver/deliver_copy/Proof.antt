@@ -12,19 +12,29 @@ returns : tie.Need-returns
 returns c = copy-short-coordinates (c .before .before .args .path .now) (c .before .before .args .coordinates .now) (c .before .before .args .lengths .now) (c .if1 .taken)
 
 returns-2 : tie.Need-returns-2
-returns-2 c = copy-short-lengths (c .before .before .before .args .path .now) (c .before .before .before .args .coordinates .now) (c .before .before .before .args .lengths .now) (c .if2 .taken)
+returns-2 c =
+    let s : tie.Start = search in
+    copy-short-lengths (s .args .path .now) (s .args .coordinates .now) (s .args .lengths .now) (c .if2 .taken)
 
 copy-points-requires : tie.Need-copy-points-requires
-copy-points-requires c κs = may-copy (c .before .before .before .before .args .path .now) (c .before .before .before .before .args .coordinates .now) (c .before .before .before .before .args .lengths .now) (c .before .before .if1 .left) (c .before .if2 .left)
+copy-points-requires c κs =
+    let else2 : tie.Else2 = search in
+    let else1 : tie.Else1 = search in
+    let s : tie.Start = search in
+    may-copy (s .args .path .now) (s .args .coordinates .now) (s .args .lengths .now) (else1 .if1 .left) (else2 .if2 .left)
 
 cast-lengths : tie.Need-cast-lengths
-cast-lengths c = omega (arith, c .before .before .before .before .before .before .pre .few)
+cast-lengths c =
+    let s : tie.Start = search in
+    omega (arith, s .pre .few)
 
 slice-write-lengths : tie.Need-slice-write-lengths
 slice-write-lengths c = omega (arith, c .before .before .before .if2 .left)
 
 cast-t13 : tie.Need-cast-t13
-cast-t13 c = omega (arith, c .before .before .before .before .before .before .pre .few)
+cast-t13 c =
+    let s : tie.Start = search in
+    omega (arith, s .pre .few)
 
 same-length : tie.Need-same-length
 same-length c = search needs
@@ -33,7 +43,12 @@ same-length-2 : tie.Need-same-length-2
 same-length-2 c = search needs
 
 returns-3 : tie.Need-returns-3
-returns-3 c = copied-all (c .before .before .before .before .before .before .args .path .now) (c .before .before .before .before .before .before .args .coordinates .now) (c .before .before .before .before .before .before .args .lengths .now) (c .before .before .before .before .if1 .left) (c .before .before .before .if2 .left) (c .before .copy-points .ensures)
+returns-3 c =
+    let copy : tie.After-copy-points = search in
+    let else2 : tie.Else2 = search in
+    let else1 : tie.Else1 = search in
+    let s : tie.Start = search in
+    copied-all (s .args .path .now) (s .args .coordinates .now) (s .args .lengths .now) (else1 .if1 .left) (else2 .if2 .left) (copy .copy-points .ensures)
 
 pub deliver-copy-spec : {M : Type 1} → statement M
 deliver-copy-spec =

@@ -6,28 +6,53 @@ use Rattle.rectclip.proofs.deliver.deliver_paths.Statement.{statement}
 use Rattle.rectclip.proofs.deliver.deliver_paths.Tie as tie
 
 returns : tie.Need-returns
-returns c = spent (c .before .before .before .pre) (c .before .before .before .args .coordinates .now) (c .before .before .before .args .lengths .now) (c .if1 .taken)
+returns c =
+    let s : tie.Start = search in
+    spent (s .pre) (s .args .coordinates .now) (s .args .lengths .now) (c .if1 .taken)
 
 mul-if2 : tie.Need-mul-if2
 mul-if2 c = let e = c .before .if1 .left in omega (arith, c .before .before .before .before .pre .counted e .few-points)
 
 returns-2 : tie.Need-returns-2
-returns-2 c = short-of-coordinates (c .before .before .before .before .before .pre) (c .before .before .before .before .before .args .coordinates .now) (c .before .before .before .before .before .args .lengths .now) (c .before .before .if1 .left) (c .if2 .taken)
+returns-2 c =
+    let else1 : tie.Else1 = search in
+    let s : tie.Start = search in
+    short-of-coordinates (s .pre) (s .args .coordinates .now) (s .args .lengths .now) (else1 .if1 .left) (c .if2 .taken)
 
 returns-3 : tie.Need-returns-3
-returns-3 c = short-of-lengths (c .before .before .before .before .before .before .pre) (c .before .before .before .before .before .before .args .coordinates .now) (c .before .before .before .before .before .before .args .lengths .now) (c .before .before .before .if1 .left) (c .if3 .taken)
+returns-3 c =
+    let else1 : tie.Else1 = search in
+    let s : tie.Start = search in
+    short-of-lengths (s .pre) (s .args .coordinates .now) (s .args .lengths .now) (else1 .if1 .left) (c .if3 .taken)
 
 read-paths-requires : tie.Need-read-paths-requires
-read-paths-requires c κs = may-read (c .before .before .before .before .before .before .before .before .pre) (c .before .before .before .before .before .before .before .before .args .coordinates .now) (c .before .before .before .before .before .before .before .before .args .lengths .now) (c .before .before .before .before .before .if1 .left) (c .before .before .before .if2 .left) (c .before .before .if3 .left)
+read-paths-requires c κs =
+    let else3 : tie.Else3 = search in
+    let else2 : tie.Else2 = search in
+    let else1 : tie.Else1 = search in
+    let s : tie.Start = search in
+    may-read (s .pre) (s .args .coordinates .now) (s .args .lengths .now) (else1 .if1 .left) (else2 .if2 .left) (else3 .if3 .left)
 
 cast-t21 : tie.Need-cast-t21
-cast-t21 c = let e = c .before .before .before .before .before .before .before .before .before .if1 .left in omega (arith, c .before .before .before .before .before .before .before .before .before .before .before .before .pre .counted e .few-paths)
+cast-t21 c =
+    let else1 : tie.Else1 = search in
+    let s : tie.Start = search in
+    let e = else1 .if1 .left in
+    omega (arith, s .pre .counted e .few-paths)
 
 cast-t22 : tie.Need-cast-t22
-cast-t22 c = let e = c .before .before .before .before .before .before .before .before .before .if1 .left in omega (arith, c .before .before .before .before .before .before .before .before .before .before .before .before .pre .counted e .few-points)
+cast-t22 c =
+    let else1 : tie.Else1 = search in
+    let s : tie.Start = search in
+    let e = else1 .if1 .left in
+    omega (arith, s .pre .counted e .few-points)
 
 cast-t23 : tie.Need-cast-t23
-cast-t23 c = let e = c .before .before .before .before .before .before .before .before .before .if1 .left in omega (arith, c .before .before .before .before .before .before .before .before .before .before .before .before .pre .counted e .few-turns)
+cast-t23 c =
+    let else1 : tie.Else1 = search in
+    let s : tie.Start = search in
+    let e = else1 .if1 .left in
+    omega (arith, s .pre .counted e .few-turns)
 
 same-length : tie.Need-same-length
 same-length c = search needs
@@ -36,7 +61,13 @@ same-length-2 : tie.Need-same-length-2
 same-length-2 c = search needs
 
 returns-4 : tie.Need-returns-4
-returns-4 c = read-all (c .before .before .before .before .before .before .before .before .before .before .before .before .pre) (c .before .before .before .before .before .before .before .before .before .before .before .before .args .coordinates .now) (c .before .before .before .before .before .before .before .before .before .before .before .before .args .lengths .now) (c .before .before .before .before .before .before .before .before .before .if1 .left) (c .before .before .before .before .before .before .before .if2 .left) (c .before .before .before .before .before .before .if3 .left) (c .before .before .before .read-paths .result) (c .before .before .before .read-paths .ensures)
+returns-4 c =
+    let r : tie.After-read-paths = search in
+    let else3 : tie.Else3 = search in
+    let else2 : tie.Else2 = search in
+    let else1 : tie.Else1 = search in
+    let s : tie.Start = search in
+    read-all (s .pre) (s .args .coordinates .now) (s .args .lengths .now) (else1 .if1 .left) (else2 .if2 .left) (else3 .if3 .left) (r .read-paths .result) (r .read-paths .ensures)
 
 pub deliver-paths-spec : {M : Type 1} → statement M
 deliver-paths-spec =

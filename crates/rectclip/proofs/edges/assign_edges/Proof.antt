@@ -19,40 +19,40 @@ loop-holds c =
 
 point-of-requires : tie.Need-point-of-requires Inv-loop μ-loop
 point-of-requires c κs =
-    let h = c .before .loop in
-    let s = c .before .before .before in
-    (assigned-may (h .inv) (s .pre) .drawn, assigned-may (h .inv) (s .pre) .op-in)
+    let h : tie.At-loop Inv-loop μ-loop = search in
+    let s : tie.Start Inv-loop μ-loop = search in
+    (assigned-may (h .loop .inv) (s .pre) .drawn, assigned-may (h .loop .inv) (s .pre) .op-in)
 
 get-edges-for-pt-requires : tie.Need-get-edges-for-pt-requires Inv-loop μ-loop
 get-edges-for-pt-requires c κs = search needs
 
 assign-node-requires : tie.Need-assign-node-requires Inv-loop μ-loop
 assign-node-requires c κs =
-    let h = c .before .before .before .before .loop in
-    let s = c .before .before .before .before .before .before in
-    assigned-may (h .inv) (s .pre)
+    let h : tie.At-loop Inv-loop μ-loop = search in
+    let s : tie.Start Inv-loop μ-loop = search in
+    assigned-may (h .loop .inv) (s .pre)
 
 next-of-requires : tie.Need-next-of-requires Inv-loop μ-loop
 next-of-requires c κs =
-    let assign-node = c .before .before .before .assign-node in
-    let h = c .before .before .before .before .before .before .before .before .loop in
-    (assign-node .ensures .becomes .holds, omega (arith, assign-node .ensures .becomes .nodes, h .inv .so-far .becomes .nodes, h .inv .here))
+    let a : tie.After-assign-node Inv-loop μ-loop = search in
+    let h : tie.At-loop Inv-loop μ-loop = search in
+    (a .assign-node .ensures .becomes .holds, omega (arith, a .assign-node .ensures .becomes .nodes, h .loop .inv .so-far .becomes .nodes, h .loop .inv .here))
 
 same-length : tie.Need-same-length Inv-loop μ-loop
 same-length c =
-    let assign-node = c .before .before .before .before .before .assign-node in
-    let h = c .before .before .before .before .before .before .before .before .before .before .loop in
-    assign-node .ensures .becomes .same ∙ h .inv .so-far .becomes .same
+    let a : tie.After-assign-node Inv-loop μ-loop = search in
+    let h : tie.At-loop Inv-loop μ-loop = search in
+    a .assign-node .ensures .becomes .same ∙ h .loop .inv .so-far .becomes .same
 
 returns : tie.Need-returns Inv-loop μ-loop
 returns c =
-    let h = c .before .before .before .before .before .before .before .before .before .before .loop in
-    let t = c .before .before .before .before .before .before .before .before .before .loop-test in
-    let point-of = c .before .before .before .before .before .before .before .before .point-of in
-    let get-edges-for-pt = c .before .before .before .before .before .before .before .get-edges-for-pt in
-    let assign-node = c .before .before .before .before .before .assign-node in
-    let next-of = c .before .next-of in
-    assigned-stop (h .inv) (t .taken) (point-of .result) (point-of .ensures) (get-edges-for-pt .result) (get-edges-for-pt .ensures) (assign-node .ensures) (next-of .result) (next-of .ensures) (c .if1 .taken)
+    let n : tie.After-next-of Inv-loop μ-loop = search in
+    let a : tie.After-assign-node Inv-loop μ-loop = search in
+    let g : tie.After-get-edges-for-pt Inv-loop μ-loop = search in
+    let p : tie.After-point-of Inv-loop μ-loop = search in
+    let t : tie.In-loop Inv-loop μ-loop = search in
+    let h : tie.At-loop Inv-loop μ-loop = search in
+    assigned-stop (h .loop .inv) (t .loop-test .taken) (p .point-of .result) (p .point-of .ensures) (g .get-edges-for-pt .result) (g .get-edges-for-pt .ensures) (a .assign-node .ensures) (n .next-of .result) (n .next-of .ensures) (c .if1 .taken)
 
 sub-left : tie.Need-sub-left Inv-loop μ-loop
 sub-left c = search needs
@@ -62,13 +62,13 @@ loop-less c = search needs
 
 loop-again : tie.Need-loop-again Inv-loop μ-loop
 loop-again c =
-    let h = c .before .before .before .before .before .before .before .before .before .before .loop in
-    let t = c .before .before .before .before .before .before .before .before .before .loop-test in
-    let point-of = c .before .before .before .before .before .before .before .before .point-of in
-    let get-edges-for-pt = c .before .before .before .before .before .before .before .get-edges-for-pt in
-    let assign-node = c .before .before .before .before .before .assign-node in
-    let next-of = c .before .next-of in
-    assigned-again (h .inv) (t .taken) (point-of .result) (point-of .ensures) (get-edges-for-pt .result) (get-edges-for-pt .ensures) (assign-node .ensures) (next-of .result) (next-of .ensures) (c .if1 .left)
+    let n : tie.After-next-of Inv-loop μ-loop = search in
+    let a : tie.After-assign-node Inv-loop μ-loop = search in
+    let g : tie.After-get-edges-for-pt Inv-loop μ-loop = search in
+    let p : tie.After-point-of Inv-loop μ-loop = search in
+    let t : tie.In-loop Inv-loop μ-loop = search in
+    let h : tie.At-loop Inv-loop μ-loop = search in
+    assigned-again (h .loop .inv) (t .loop-test .taken) (p .point-of .result) (p .point-of .ensures) (g .get-edges-for-pt .result) (g .get-edges-for-pt .ensures) (a .assign-node .ensures) (n .next-of .result) (n .next-of .ensures) (c .if1 .left)
 
 same-length-2 : tie.Need-same-length-2 Inv-loop μ-loop
 same-length-2 c = c .before .loop .inv .so-far .becomes .same

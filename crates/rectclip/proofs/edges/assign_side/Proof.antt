@@ -24,8 +24,9 @@ mul-e c = search needs
 
 point-of-requires : tie.Need-point-of-requires
 point-of-requires c κs =
-    let s = c .before .before .before .before .before .before .before .before in
-    (s .pre .0 .drawn, rw (c .before .prev-of .ensures) (s .pre .0 .holds .valid .prev-in (s .args .op) (s .pre .0 .op-in)))
+    let p : tie.After-prev-of = search in
+    let s : tie.Start = search in
+    (s .pre .0 .drawn, rw (p .prev-of .ensures) (s .pre .0 .holds .valid .prev-in (s .args .op) (s .pre .0 .op-in)))
 
 point-of-requires-2 : tie.Need-point-of-requires-2
 point-of-requires-2 c κs = search needs
@@ -35,7 +36,7 @@ is-heading-clockwise-requires c κs = search needs
 
 add-to-edge-requires : tie.Need-add-to-edge-requires
 add-to-edge-requires c κs =
-    let s = c .before .before .before .before .before .before .before .before .before .before .before .before .before in
+    let s : tie.Start = search in
     may-enter (s .pre .0) _ (omega (arith, s .pre .1))
 
 same-length : tie.Need-same-length
@@ -43,25 +44,26 @@ same-length c = search needs
 
 returns : tie.Need-returns
 returns c =
-    let s = c .before .before .before .before .before .before .before .before .before .before .before .before .before .before .before .before in
-    let has-edge = c .before .before .before .before .before .before .before .before .before .before .before .before .before .before .has-edge in
-    let if1 = c .before .before .before .before .before .before .before .before .before .before .before .before .before .if1 in
-    let has-edge2 = c .before .before .before .before .before .before .before .before .before .before .before .before .has-edge2 in
-    let if2 = c .before .before .before .before .before .before .before .before .before .before .before .if2 in
-    let prev-of = c .before .before .before .before .before .before .before .before .before .prev-of in
-    let point-of = c .before .before .before .before .before .before .before .point-of in
-    let point-of2 = c .before .before .before .before .before .before .point-of2 in
-    let from-number = c .before .before .before .before .before .before .before .before .from-number in
-    let is-heading-clockwise = c .before .before .before .before .before .is-heading-clockwise in
-    let if3 = c .before .before .before .before .if3 in
-    enters-renamed (c .before .before .add-to-edge .ensures) (assign-both _ _ _ (s .args .set1) (s .args .set2) (s .args .j) (sym (has-edge .ensures) ∙ if1 .taken) (sym (has-edge2 .ensures) ∙ if2 .taken) (prev-of .result) _ _ _ _ _ (prev-of .ensures) (point-of .ensures) (point-of2 .ensures) (from-number .ensures) (is-heading-clockwise .ensures) (if3 .taken))
+    let a : tie.After-add-to-edge = search in
+    let then3 : tie.Then3 = search in
+    let i : tie.After-is-heading-clockwise = search in
+    let point2 : tie.After-point-of2 = search in
+    let point : tie.After-point-of = search in
+    let f : tie.After-from-number = search in
+    let prev : tie.After-prev-of = search in
+    let then2 : tie.Then2 = search in
+    let h2 : tie.After-has-edge2 = search in
+    let then1 : tie.Then1 = search in
+    let h : tie.After-has-edge = search in
+    let s : tie.Start = search in
+    enters-renamed (a .add-to-edge .ensures) (assign-both _ _ _ (s .args .set1) (s .args .set2) (s .args .j) (sym (h .has-edge .ensures) ∙ then1 .if1 .taken) (sym (h2 .has-edge2 .ensures) ∙ then2 .if2 .taken) (prev .prev-of .result) _ _ _ _ _ (prev .prev-of .ensures) (point .point-of .ensures) (point2 .point-of2 .ensures) (f .from-number .ensures) (i .is-heading-clockwise .ensures) (then3 .if3 .taken))
 
 add-add-to-edge : tie.Need-add-add-to-edge
 add-add-to-edge c = search needs
 
 add-to-edge-requires-2 : tie.Need-add-to-edge-requires-2
 add-to-edge-requires-2 c κs =
-    let s = c .before .before .before .before .before .before .before .before .before .before .before .before .before in
+    let s : tie.Start = search in
     may-enter (s .pre .0) _ (omega (arith, s .pre .1))
 
 same-length-2 : tie.Need-same-length-2
@@ -69,29 +71,33 @@ same-length-2 c = search needs
 
 returns-2 : tie.Need-returns-2
 returns-2 c =
-    let s = c .before .before .before .before .before .before .before .before .before .before .before .before .before .before .before .before in
-    let has-edge = c .before .before .before .before .before .before .before .before .before .before .before .before .before .before .has-edge in
-    let if1 = c .before .before .before .before .before .before .before .before .before .before .before .before .before .if1 in
-    let has-edge2 = c .before .before .before .before .before .before .before .before .before .before .before .before .has-edge2 in
-    let if2 = c .before .before .before .before .before .before .before .before .before .before .before .if2 in
-    let prev-of = c .before .before .before .before .before .before .before .before .before .prev-of in
-    let point-of = c .before .before .before .before .before .before .before .point-of in
-    let point-of2 = c .before .before .before .before .before .before .point-of2 in
-    let from-number = c .before .before .before .before .before .before .before .before .from-number in
-    let is-heading-clockwise = c .before .before .before .before .before .is-heading-clockwise in
-    let if3 = c .before .before .before .before .if3 in
-    enters-renamed (c .before .before .add-to-edge2 .ensures) (assign-both _ _ _ (s .args .set1) (s .args .set2) (s .args .j) (sym (has-edge .ensures) ∙ if1 .taken) (sym (has-edge2 .ensures) ∙ if2 .taken) (prev-of .result) _ _ _ _ _ (prev-of .ensures) (point-of .ensures) (point-of2 .ensures) (from-number .ensures) (is-heading-clockwise .ensures) (if3 .left))
+    let a2 : tie.After-add-to-edge2 = search in
+    let else3 : tie.Else3 = search in
+    let i : tie.After-is-heading-clockwise = search in
+    let point2 : tie.After-point-of2 = search in
+    let point : tie.After-point-of = search in
+    let f : tie.After-from-number = search in
+    let prev : tie.After-prev-of = search in
+    let then2 : tie.Then2 = search in
+    let h2 : tie.After-has-edge2 = search in
+    let then1 : tie.Then1 = search in
+    let h : tie.After-has-edge = search in
+    let s : tie.Start = search in
+    enters-renamed (a2 .add-to-edge2 .ensures) (assign-both _ _ _ (s .args .set1) (s .args .set2) (s .args .j) (sym (h .has-edge .ensures) ∙ then1 .if1 .taken) (sym (h2 .has-edge2 .ensures) ∙ then2 .if2 .taken) (prev .prev-of .result) _ _ _ _ _ (prev .prev-of .ensures) (point .point-of .ensures) (point2 .point-of2 .ensures) (f .from-number .ensures) (i .is-heading-clockwise .ensures) (else3 .if3 .left))
 
 returns-3 : tie.Need-returns-3
 returns-3 c =
-    let s = c .before .before .before .before .before in
-    let has-edge = c .before .before .before .has-edge in
-    enters-renamed (enters-same (s .pre .0 .holds)) (assign-one _ _ (s .args .op) (s .args .set1) (s .args .set2) (s .args .j) (sym (has-edge .ensures) ∙ c .before .before .if1 .taken) (sym (c .before .has-edge2 .ensures) ∙ c .if2 .left))
+    let h2 : tie.After-has-edge2 = search in
+    let then1 : tie.Then1 = search in
+    let h : tie.After-has-edge = search in
+    let s : tie.Start = search in
+    enters-renamed (enters-same (s .pre .0 .holds)) (assign-one _ _ (s .args .op) (s .args .set1) (s .args .set2) (s .args .j) (sym (h .has-edge .ensures) ∙ then1 .if1 .taken) (sym (h2 .has-edge2 .ensures) ∙ c .if2 .left))
 
 returns-4 : tie.Need-returns-4
 returns-4 c =
-    let s = c .before .before .before in
-    enters-renamed (enters-same (s .pre .0 .holds)) (assign-none _ _ (s .args .op) (s .args .set1) (s .args .set2) (s .args .j) (sym (c .before .has-edge .ensures) ∙ c .if1 .left))
+    let h : tie.After-has-edge = search in
+    let s : tie.Start = search in
+    enters-renamed (enters-same (s .pre .0 .holds)) (assign-none _ _ (s .args .op) (s .args .set1) (s .args .set2) (s .args .j) (sym (h .has-edge .ensures) ∙ c .if1 .left))
 
 pub assign-side-spec : {M : Type 1} → statement M
 assign-side-spec =

@@ -18,26 +18,28 @@ loop-holds c =
 
 check-result-requires : tie.Need-check-result-requires Inv-loop μ-loop
 check-result-requires c κs =
-    let h = c .before .before .loop in
-    let s = c .before .before .before .before in
-    (checked-may (h .inv) (s .pre), omega (arith, h .inv .so-far .becomes .results, c .before .loop-test .taken))
+    let t : tie.In-loop Inv-loop μ-loop = search in
+    let h : tie.At-loop Inv-loop μ-loop = search in
+    let s : tie.Start Inv-loop μ-loop = search in
+    (checked-may (h .loop .inv) (s .pre), omega (arith, h .loop .inv .so-far .becomes .results, t .loop-test .taken))
 
 add-i : tie.Need-add-i Inv-loop μ-loop
 add-i c =
-    let t = c .before .before .before .before .loop-test in
-    let s = c .before .before .before .before .before .before .before in
-    omega (arith, t .taken, s .pre .holds .results, s .pre .holds .room .small)
+    let t : tie.In-loop Inv-loop μ-loop = search in
+    let s : tie.Start Inv-loop μ-loop = search in
+    omega (arith, t .loop-test .taken, s .pre .holds .results, s .pre .holds .room .small)
 
 loop-less : tie.Need-loop-less Inv-loop μ-loop
 loop-less c =
-    let t = c .before .before .before .before .loop-test in
-    omega (arith, t .taken)
+    let t : tie.In-loop Inv-loop μ-loop = search in
+    omega (arith, t .loop-test .taken)
 
 loop-again : tie.Need-loop-again Inv-loop μ-loop
 loop-again c =
-    let h = c .before .before .before .before .before .loop in
-    let t = c .before .before .before .before .loop-test in
-    checked-again (h .inv) (t .taken) (c .before .before .check-result .ensures)
+    let check : tie.After-check-result Inv-loop μ-loop = search in
+    let t : tie.In-loop Inv-loop μ-loop = search in
+    let h : tie.At-loop Inv-loop μ-loop = search in
+    checked-again (h .loop .inv) (t .loop-test .taken) (check .check-result .ensures)
 
 same-length : tie.Need-same-length Inv-loop μ-loop
 same-length c = c .before .loop .inv .so-far .becomes .same

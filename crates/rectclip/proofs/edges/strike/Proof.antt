@@ -19,66 +19,71 @@ mul-len c = search needs
 
 array-read-len : tie.Need-array-read-len Inv-loop μ-loop
 array-read-len c =
-    let s = c .before .before in
+    let s : tie.Start Inv-loop μ-loop = search in
     omega (arith, s .pre .1, s .pre .0 .eight)
 
 loop-holds : tie.Need-loop-holds Inv-loop μ-loop
 loop-holds c =
-    let s = c .before .before in
+    let s : tie.Start Inv-loop μ-loop = search in
     striking-start (s .args .s) (s .args .e) (s .args .op) (s .args .work .now)
 
 entry-of-requires : tie.Need-entry-of-requires Inv-loop μ-loop
 entry-of-requires c κs =
-    let s = c .before .before .before .before .before in
-    (striking-holds (c .before .before .loop .inv) (s .pre .0) (s .pre .1), s .pre .1, c .before .loop-test .taken)
+    let t : tie.In-loop Inv-loop μ-loop = search in
+    let h : tie.At-loop Inv-loop μ-loop = search in
+    let s : tie.Start Inv-loop μ-loop = search in
+    (striking-holds (h .loop .inv) (s .pre .0) (s .pre .1), s .pre .1, t .loop-test .taken)
 
 set-entry-requires : tie.Need-set-entry-requires Inv-loop μ-loop
 set-entry-requires c κs =
-    let h = c .before .before .before .before .before .loop in
-    let s = c .before .before .before .before .before .before .before .before in
-    let t = c .before .before .before .before .loop-test in
-    (striking-holds (h .inv) (s .pre .0) (s .pre .1), s .pre .1, t .taken, λ q. absurd (q refl))
+    let t : tie.In-loop Inv-loop μ-loop = search in
+    let h : tie.At-loop Inv-loop μ-loop = search in
+    let s : tie.Start Inv-loop μ-loop = search in
+    (striking-holds (h .loop .inv) (s .pre .0) (s .pre .1), s .pre .1, t .loop-test .taken, λ q. absurd (q refl))
 
 same-length : tie.Need-same-length Inv-loop μ-loop
 same-length c =
-    let h = c .before .before .before .before .before .before .before .before .loop in
-    c .before .before .set-entry .ensures .same ∙ ap length (h .inv .untouched)
+    let set : tie.After-set-entry Inv-loop μ-loop = search in
+    let h : tie.At-loop Inv-loop μ-loop = search in
+    set .set-entry .ensures .same ∙ ap length (h .loop .inv .untouched)
 
 returns : tie.Need-returns Inv-loop μ-loop
 returns c =
-    let h = c .before .before .before .before .before .before .before .before .loop in
-    let s = c .before .before .before .before .before .before .before .before .before .before .before in
-    let t = c .before .before .before .before .before .before .before .loop-test in
-    let entry-of = c .before .before .before .before .before .entry-of in
-    let if1 = c .before .before .before .before .if1 in
-    striking-found (h .inv) (s .pre .0) (s .pre .1) (t .taken) (entry-of .result) (entry-of .ensures) (if1 .taken) (c .before .before .set-entry .ensures)
+    let set : tie.After-set-entry Inv-loop μ-loop = search in
+    let then1 : tie.Then1 Inv-loop μ-loop = search in
+    let e : tie.After-entry-of Inv-loop μ-loop = search in
+    let t : tie.In-loop Inv-loop μ-loop = search in
+    let h : tie.At-loop Inv-loop μ-loop = search in
+    let s : tie.Start Inv-loop μ-loop = search in
+    striking-found (h .loop .inv) (s .pre .0) (s .pre .1) (t .loop-test .taken) (e .entry-of .result) (e .entry-of .ensures) (then1 .if1 .taken) (set .set-entry .ensures)
 
 add-i : tie.Need-add-i Inv-loop μ-loop
 add-i c =
-    let t = c .before .before .before .loop-test in
-    let s = c .before .before .before .before .before .before .before in
-    omega (arith, t .taken, s .pre .0 .lists (s .args .e) (s .pre .1), s .pre .0 .room .small)
+    let t : tie.In-loop Inv-loop μ-loop = search in
+    let s : tie.Start Inv-loop μ-loop = search in
+    omega (arith, t .loop-test .taken, s .pre .0 .lists (s .args .e) (s .pre .1), s .pre .0 .room .small)
 
 loop-less : tie.Need-loop-less Inv-loop μ-loop
 loop-less c =
-    let t = c .before .before .before .loop-test in
-    omega (arith, t .taken)
+    let t : tie.In-loop Inv-loop μ-loop = search in
+    omega (arith, t .loop-test .taken)
 
 loop-again : tie.Need-loop-again Inv-loop μ-loop
 loop-again c =
-    let h = c .before .before .before .before .loop in
-    let s = c .before .before .before .before .before .before .before in
-    let t = c .before .before .before .loop-test in
-    let entry-of = c .before .entry-of in
-    striking-again (h .inv) (s .pre .0) (s .pre .1) (t .taken) (entry-of .result) (entry-of .ensures) (c .if1 .left)
+    let e : tie.After-entry-of Inv-loop μ-loop = search in
+    let t : tie.In-loop Inv-loop μ-loop = search in
+    let h : tie.At-loop Inv-loop μ-loop = search in
+    let s : tie.Start Inv-loop μ-loop = search in
+    striking-again (h .loop .inv) (s .pre .0) (s .pre .1) (t .loop-test .taken) (e .entry-of .result) (e .entry-of .ensures) (c .if1 .left)
 
 same-length-2 : tie.Need-same-length-2 Inv-loop μ-loop
 same-length-2 c = ap length (c .before .loop .inv .untouched)
 
 returns-2 : tie.Need-returns-2 Inv-loop μ-loop
 returns-2 c =
-    let s = c .before .before .before .before in
-    striking-none (c .before .loop .inv) (s .pre .0) (s .pre .1) (c .loop-test .left)
+    let h : tie.At-loop Inv-loop μ-loop = search in
+    let s : tie.Start Inv-loop μ-loop = search in
+    striking-none (h .loop .inv) (s .pre .0) (s .pre .1) (c .loop-test .left)
 
 pub strike-spec : {M : Type 1} → statement M
 strike-spec =

@@ -13,32 +13,34 @@ same-length c = search needs
 
 returns : tie.Need-returns
 returns c =
-    let s = c .before .before .before .before in
-    let edge-of = c .before .edge-of in
-    uncoupled-before (s .args .op) (s .pre .0) (edge-of .result) (edge-of .ensures) (c .if1 .taken)
+    let e : tie.After-edge-of = search in
+    let s : tie.Start = search in
+    uncoupled-before (s .args .op) (s .pre .0) (e .edge-of .result) (e .edge-of .ensures) (c .if1 .taken)
 
 strike-requires : tie.Need-strike-requires
 strike-requires c κs =
-    let s = c .before .before .before .before .before in
-    let edge-of = c .before .before .edge-of in
-    (s .pre .0, rw (edge-of .ensures) (s .pre .0 .valid .edge-in _ (s .pre .1) (λ w. c .before .if1 .left (edge-of .ensures ∙ w))))
+    let else1 : tie.Else1 = search in
+    let e : tie.After-edge-of = search in
+    let s : tie.Start = search in
+    (s .pre .0, rw (e .edge-of .ensures) (s .pre .0 .valid .edge-in _ (s .pre .1) (λ w. else1 .if1 .left (e .edge-of .ensures ∙ w))))
 
 set-edge-requires : tie.Need-set-edge-requires
 set-edge-requires c κs =
-    let strike = c .before .before .before .strike in
-    let s = c .before .before .before .before .before .before .before .before .before in
-    (strike .ensures .holds, s .pre .1, λ q. absurd (q refl))
+    let strike : tie.After-strike = search in
+    let s : tie.Start = search in
+    (strike .strike .ensures .holds, s .pre .1, λ q. absurd (q refl))
 
 same-length-2 : tie.Need-same-length-2
 same-length-2 c = search needs
 
 returns-2 : tie.Need-returns-2
 returns-2 c =
-    let s = c .before .before .before .before .before .before .before .before .before .before .before .before in
-    let edge-of = c .before .before .before .before .before .before .before .before .before .edge-of in
-    let if1 = c .before .before .before .before .before .before .before .before .if1 in
-    let strike = c .before .before .before .before .before .before .strike in
-    uncoupled (s .args .op) (s .pre .0) (edge-of .result) (edge-of .ensures) (if1 .left) (strike .ensures) (c .before .before .set-edge .ensures)
+    let set : tie.After-set-edge = search in
+    let strike : tie.After-strike = search in
+    let else1 : tie.Else1 = search in
+    let e : tie.After-edge-of = search in
+    let s : tie.Start = search in
+    uncoupled (s .args .op) (s .pre .0) (e .edge-of .result) (e .edge-of .ensures) (else1 .if1 .left) (strike .strike .ensures) (set .set-edge .ensures)
 
 pub uncouple-edge-spec : {M : Type 1} → statement M
 uncouple-edge-spec =

@@ -22,7 +22,12 @@ get-location-requires : tie.Need-get-location-requires Inv-loop μ-loop
 get-location-requires c κs = search needs
 
 returns : tie.Need-returns Inv-loop μ-loop
-returns c = seek-found (c .before .before .before .before .loop .inv) (c .before .before .before .loop-test .taken) (c .before .before .point-at .ensures) (c .before .get-location .ensures) (c .if1 .taken)
+returns c =
+    let g : tie.After-get-location Inv-loop μ-loop = search in
+    let p : tie.After-point-at Inv-loop μ-loop = search in
+    let t : tie.In-loop Inv-loop μ-loop = search in
+    let h : tie.At-loop Inv-loop μ-loop = search in
+    seek-found (h .loop .inv) (t .loop-test .taken) (p .point-at .ensures) (g .get-location .ensures) (c .if1 .taken)
 
 add-i : tie.Need-add-i Inv-loop μ-loop
 add-i c = search needs
@@ -31,7 +36,12 @@ loop-less : tie.Need-loop-less Inv-loop μ-loop
 loop-less c = search needs
 
 loop-again : tie.Need-loop-again Inv-loop μ-loop
-loop-again c = seek-again (c .before .before .before .before .loop .inv) (c .before .before .before .loop-test .taken) (c .before .before .point-at .ensures) (c .before .get-location .ensures) (c .if1 .left)
+loop-again c =
+    let g : tie.After-get-location Inv-loop μ-loop = search in
+    let p : tie.After-point-at Inv-loop μ-loop = search in
+    let t : tie.In-loop Inv-loop μ-loop = search in
+    let h : tie.At-loop Inv-loop μ-loop = search in
+    seek-again (h .loop .inv) (t .loop-test .taken) (p .point-at .ensures) (g .get-location .ensures) (c .if1 .left)
 
 returns-2 : tie.Need-returns-2 Inv-loop μ-loop
 returns-2 c = seek-ends (c .before .loop .inv) (c .loop-test .left)

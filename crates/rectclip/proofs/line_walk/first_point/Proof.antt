@@ -31,7 +31,14 @@ same-length-2 : tie.Need-same-length-2
 same-length-2 c = search needs
 
 returns : tie.Need-returns
-returns c = let s : tie.Start = search in step-by (first-inside _ (points-of (s .args .path .now)) (s .args .loc) (sym (c .before .before .before .before .before .before .before .before .before .is-inside .ensures) ∙ c .before .before .before .before .before .before .before .before .if1 .taken)) (rw (c .before .before .before .before .point-at .ensures) at (from-fresh (s .args .store .now) (s .args .work .now) (λ w. add (no-room (length (s .args .store .now) / 2)) w (c .before .before .before .before .point-at .result) false) (c .before .before .before .before .before .new .ensures) (c .before .before .before .add .ensures)))
+returns c =
+    let a : tie.After-add = search in
+    let p : tie.After-point-at = search in
+    let n : tie.After-new = search in
+    let then1 : tie.Then1 = search in
+    let i : tie.After-is-inside = search in
+    let s : tie.Start = search in
+    step-by (first-inside _ (points-of (s .args .path .now)) (s .args .loc) (sym (i .is-inside .ensures) ∙ then1 .if1 .taken)) (rw (p .point-at .ensures) at (from-fresh (s .args .store .now) (s .args .work .now) (λ w. add (no-room (length (s .args .store .now) / 2)) w (p .point-at .result) false) (n .new .ensures) (a .add .ensures)))
 
 new-requires-2 : tie.Need-new-requires-2
 new-requires-2 c κs = search needs

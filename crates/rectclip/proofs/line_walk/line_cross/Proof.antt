@@ -22,7 +22,12 @@ same-length-2 : tie.Need-same-length-2
 same-length-2 c = search needs
 
 returns : tie.Need-returns
-returns c = let s : tie.Start = search in entered (s .args .rect) (s .args .store .now) (s .args .work .now) (s .args .nx) (s .args .prev) (s .args .prev-pt) (s .args .pt) (s .args .ip) (sym (c .before .before .before .before .before .before .before .before .is-inside .ensures) ∙ c .before .before .before .before .before .before .before .if1 .taken) (c .before .before .before .before .add .ensures) (c .move-of .ensures)
+returns c =
+    let a : tie.After-add = search in
+    let then1 : tie.Then1 = search in
+    let i : tie.After-is-inside = search in
+    let s : tie.Start = search in
+    entered (s .args .rect) (s .args .store .now) (s .args .work .now) (s .args .nx) (s .args .prev) (s .args .prev-pt) (s .args .pt) (s .args .ip) (sym (i .is-inside .ensures) ∙ then1 .if1 .taken) (a .add .ensures) (c .move-of .ensures)
 
 is-inside-requires-2 : tie.Need-is-inside-requires-2
 is-inside-requires-2 c κs = search needs
@@ -37,7 +42,14 @@ same-length-4 : tie.Need-same-length-4
 same-length-4 c = search needs
 
 returns-2 : tie.Need-returns-2
-returns-2 c = let s : tie.Start = search in passed (s .args .rect) (s .args .store .now) (s .args .work .now) (s .args .nx) (s .args .prev) (s .args .prev-pt) (s .args .pt) (s .args .ip) (sym (c .before .before .before .before .before .before .before .before .before .is-inside .ensures) ∙ c .before .before .before .before .before .before .before .before .if1 .left) (sym (c .before .before .before .before .before .before .before .is-inside2 .ensures) ∙ not-true _ (c .before .before .before .before .before .before .if2 .taken)) (c .before .before .before .line-through .ensures)
+returns-2 c =
+    let l : tie.After-line-through = search in
+    let then2 : tie.Then2 = search in
+    let i2 : tie.After-is-inside2 = search in
+    let else1 : tie.Else1 = search in
+    let i : tie.After-is-inside = search in
+    let s : tie.Start = search in
+    passed (s .args .rect) (s .args .store .now) (s .args .work .now) (s .args .nx) (s .args .prev) (s .args .prev-pt) (s .args .pt) (s .args .ip) (sym (i .is-inside .ensures) ∙ else1 .if1 .left) (sym (i2 .is-inside2 .ensures) ∙ not-true _ (then2 .if2 .taken)) (l .line-through .ensures)
 
 add-requires-2 : tie.Need-add-requires-2
 add-requires-2 c κs = let s : tie.Start = search in record { fits = s .pre .fits; close = s .pre .at }
@@ -52,7 +64,14 @@ same-length-6 : tie.Need-same-length-6
 same-length-6 c = search needs
 
 returns-3 : tie.Need-returns-3
-returns-3 c = let s : tie.Start = search in exited (s .args .rect) (s .args .store .now) (s .args .work .now) (s .args .nx) (s .args .prev) (s .args .prev-pt) (s .args .pt) (s .args .ip) (sym (c .before .before .before .before .before .before .before .before .before .before .is-inside .ensures) ∙ c .before .before .before .before .before .before .before .before .before .if1 .left) (sym (c .before .before .before .before .before .before .before .before .is-inside2 .ensures) ∙ not-false _ (c .before .before .before .before .before .before .before .if2 .left)) (c .before .before .before .before .add2 .ensures) (c .move-of2 .ensures)
+returns-3 c =
+    let a2 : tie.After-add2 = search in
+    let else2 : tie.Else2 = search in
+    let i2 : tie.After-is-inside2 = search in
+    let else1 : tie.Else1 = search in
+    let i : tie.After-is-inside = search in
+    let s : tie.Start = search in
+    exited (s .args .rect) (s .args .store .now) (s .args .work .now) (s .args .nx) (s .args .prev) (s .args .prev-pt) (s .args .pt) (s .args .ip) (sym (i .is-inside .ensures) ∙ else1 .if1 .left) (sym (i2 .is-inside2 .ensures) ∙ not-false _ (else2 .if2 .left)) (a2 .add2 .ensures) (c .move-of2 .ensures)
 
 pub line-cross-spec : {M : Type 1} → statement M
 line-cross-spec =

@@ -32,10 +32,22 @@ add-t17 : tie.Need-add-t17
 add-t17 c = search needs
 
 returns-2 : tie.Need-returns-2
-returns-2 c = let s : tie.Start = search in from-next (s .args .rect) (s .args .path .now) (s .args .store .now) (s .args .work .now) (s .args .prev) (s .args .nx) (s .pre .fits) (c .before .before .before .before .before .if1 .left) (c .before .before .before .before .point-at .ensures) (c .before .before .before .point-at2 .ensures) (c .before .before .get-intersection .ensures .0) (c .enum-told .given .1)
+returns-2 c =
+    let g : tie.After-get-intersection = search in
+    let p2 : tie.After-point-at2 = search in
+    let p : tie.After-point-at = search in
+    let else1 : tie.Else1 = search in
+    let s : tie.Start = search in
+    from-next (s .args .rect) (s .args .path .now) (s .args .store .now) (s .args .work .now) (s .args .prev) (s .args .nx) (s .pre .fits) (else1 .if1 .left) (p .point-at .ensures) (p2 .point-at2 .ensures) (g .get-intersection .ensures .0) (c .enum-told .given .1)
 
 line-cross-requires : tie.Need-line-cross-requires
-line-cross-requires c κs = let s : tie.Start = search in record { fits = s .pre .fits; extent = s .pre .sheet .extent; frame = s .pre .sheet .frame; start = rw (c .before .before .before .before .before .before .point-at2 .ensures) (path-limited (s .args .path .now) (s .pre .sheet .points) (s .args .nx .i - 1)); end = rw (c .before .before .before .before .before .before .before .point-at .ensures) (path-limited (s .args .path .now) (s .pre .sheet .points) (s .args .nx .i)); at = c .before .before .before .before .before .get-intersection .ensures .1 .reached (s .pre .sheet .extent) _ _ (c .before .before .before .ip .given .1) }
+line-cross-requires c κs =
+    let i : tie.After-ip = search in
+    let g : tie.After-get-intersection = search in
+    let p2 : tie.After-point-at2 = search in
+    let p : tie.After-point-at = search in
+    let s : tie.Start = search in
+    record { fits = s .pre .fits; extent = s .pre .sheet .extent; frame = s .pre .sheet .frame; start = rw (p2 .point-at2 .ensures) (path-limited (s .args .path .now) (s .pre .sheet .points) (s .args .nx .i - 1)); end = rw (p .point-at .ensures) (path-limited (s .args .path .now) (s .pre .sheet .points) (s .args .nx .i)); at = g .get-intersection .ensures .1 .reached (s .pre .sheet .extent) _ _ (i .ip .given .1) }
 
 same-length : tie.Need-same-length
 same-length c = search needs
@@ -44,7 +56,15 @@ same-length-2 : tie.Need-same-length-2
 same-length-2 c = search needs
 
 returns-3 : tie.Need-returns-3
-returns-3 c = let s : tie.Start = search in from-crossing (s .args .rect) (s .args .path .now) (s .args .store .now) (s .args .work .now) (s .args .prev) (s .args .nx) (s .pre .fits) (c .before .before .before .before .before .before .before .before .before .before .before .before .if1 .left) (c .before .before .before .before .before .before .before .before .before .before .before .point-at .ensures) (c .before .before .before .before .before .before .before .before .before .before .point-at2 .ensures) (c .before .before .before .before .before .before .before .before .before .get-intersection .ensures .0) (c .before .before .before .before .before .before .before .ip .given .1) (c .before .before .before .line-cross .ensures)
+returns-3 c =
+    let l : tie.After-line-cross = search in
+    let i : tie.After-ip = search in
+    let g : tie.After-get-intersection = search in
+    let p2 : tie.After-point-at2 = search in
+    let p : tie.After-point-at = search in
+    let else1 : tie.Else1 = search in
+    let s : tie.Start = search in
+    from-crossing (s .args .rect) (s .args .path .now) (s .args .store .now) (s .args .work .now) (s .args .prev) (s .args .nx) (s .pre .fits) (else1 .if1 .left) (p .point-at .ensures) (p2 .point-at2 .ensures) (g .get-intersection .ensures .0) (i .ip .given .1) (l .line-cross .ensures)
 
 pub line-from-spec : {M : Type 1} → statement M
 line-from-spec =

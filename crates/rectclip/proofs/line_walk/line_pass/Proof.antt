@@ -26,10 +26,16 @@ same-length-2 : tie.Need-same-length-2
 same-length-2 c = search needs
 
 returns : tie.Need-returns
-returns c = let s : tie.Start = search in move-stops (c .before .before .before .before .before .get-next-location .ensures) (c .enum-told .given .1) _
+returns c =
+    let g : tie.After-get-next-location = search in
+    move-stops (g .get-next-location .ensures) (c .enum-told .given .1) _
 
 line-from-requires : tie.Need-line-from-requires
-line-from-requires c κs = let s : tie.Start = search in record { fits = c .before .before .before .before .before .before .before .before .get-next-location .ensures .fits _ (c .before .before .before .m .given .1); sheet = s .pre .sheet; begun = omega (arith, s .pre .begun, c .before .before .before .before .before .before .before .before .get-next-location .ensures .forth _ (c .before .before .before .m .given .1)) }
+line-from-requires c κs =
+    let m : tie.After-m = search in
+    let g : tie.After-get-next-location = search in
+    let s : tie.Start = search in
+    record { fits = g .get-next-location .ensures .fits _ (m .m .given .1); sheet = s .pre .sheet; begun = omega (arith, s .pre .begun, g .get-next-location .ensures .forth _ (m .m .given .1)) }
 
 same-length-3 : tie.Need-same-length-3
 same-length-3 c = search needs
@@ -38,7 +44,12 @@ same-length-4 : tie.Need-same-length-4
 same-length-4 c = search needs
 
 returns-2 : tie.Need-returns-2
-returns-2 c = let s : tie.Start = search in move-then (c .before .before .before .before .before .before .before .before .before .before .before .before .get-next-location .ensures) (c .before .before .before .before .before .before .before .m .given .1) (line-from (no-room (length (s .args .store .now) / 2)) (s .args .rect) (points-of (s .args .path .now)) (s .args .s .loc)) (rw (c .before .before .before .before .before .before .before .before .before .before .before .before .get-next-location .kept .1 .1 .0) at (c .before .before .before .line-from .ensures))
+returns-2 c =
+    let l : tie.After-line-from = search in
+    let m : tie.After-m = search in
+    let g : tie.After-get-next-location = search in
+    let s : tie.Start = search in
+    move-then (g .get-next-location .ensures) (m .m .given .1) (line-from (no-room (length (s .args .store .now) / 2)) (s .args .rect) (points-of (s .args .path .now)) (s .args .s .loc)) (rw (g .get-next-location .kept .1 .1 .0) at (l .line-from .ensures))
 
 pub line-pass-spec : {M : Type 1} → statement M
 line-pass-spec =

@@ -25,7 +25,10 @@ returns : tie.Need-returns Inv-loop μ-loop
 returns c = passes-past (c .before .before .loop .inv) (c .before .loop-test .taken) (c .if1 .taken)
 
 line-pass-requires : tie.Need-line-pass-requires Inv-loop μ-loop
-line-pass-requires c κs = let s : tie.Start Inv-loop μ-loop = search in record { fits = c .before .before .before .before .loop .inv .going .fits; sheet = s .pre .sheet; begun = omega (arith, s .pre .begun, c .before .before .before .before .loop .inv .forth) }
+line-pass-requires c κs =
+    let h : tie.At-loop Inv-loop μ-loop = search in
+    let s : tie.Start Inv-loop μ-loop = search in
+    record { fits = h .loop .inv .going .fits; sheet = s .pre .sheet; begun = omega (arith, s .pre .begun, h .loop .inv .forth) }
 
 enum-known-m : tie.Need-enum-known-m Inv-loop μ-loop
 enum-known-m c = search needs
@@ -34,13 +37,24 @@ enum-told : tie.Need-enum-told Inv-loop μ-loop
 enum-told c = search needs
 
 same-length-3 : tie.Need-same-length-3 Inv-loop μ-loop
-same-length-3 c = c .before .before .before .before .before .line-pass .kept .1 .1 .0 ∙ c .before .before .before .before .before .before .before .before .before .before .loop .inv .going .store-kept
+same-length-3 c =
+    let l : tie.After-line-pass Inv-loop μ-loop = search in
+    let h : tie.At-loop Inv-loop μ-loop = search in
+    l .line-pass .kept .1 .1 .0 ∙ h .loop .inv .going .store-kept
 
 same-length-4 : tie.Need-same-length-4 Inv-loop μ-loop
-same-length-4 c = c .before .before .before .before .before .line-pass .kept .1 .1 .1 .0 ∙ c .before .before .before .before .before .before .before .before .before .before .loop .inv .going .work-kept
+same-length-4 c =
+    let l : tie.After-line-pass Inv-loop μ-loop = search in
+    let h : tie.At-loop Inv-loop μ-loop = search in
+    l .line-pass .kept .1 .1 .1 .0 ∙ h .loop .inv .going .work-kept
 
 returns-2 : tie.Need-returns-2 Inv-loop μ-loop
-returns-2 c = passes-lost (c .before .before .before .before .before .before .before .before .before .before .loop .inv) (c .before .before .before .before .before .before .before .before .before .loop-test .taken) (c .before .before .before .before .before .before .before .before .if1 .left) (c .before .before .before .before .before .line-pass .ensures) _ (c .enum-told .given .1)
+returns-2 c =
+    let l : tie.After-line-pass Inv-loop μ-loop = search in
+    let else1 : tie.Else1 Inv-loop μ-loop = search in
+    let t : tie.In-loop Inv-loop μ-loop = search in
+    let h : tie.At-loop Inv-loop μ-loop = search in
+    passes-lost (h .loop .inv) (t .loop-test .taken) (else1 .if1 .left) (l .line-pass .ensures) _ (c .enum-told .given .1)
 
 sub-left : tie.Need-sub-left Inv-loop μ-loop
 sub-left c = search needs
@@ -49,7 +63,13 @@ loop-less : tie.Need-loop-less Inv-loop μ-loop
 loop-less c = search needs
 
 loop-again : tie.Need-loop-again Inv-loop μ-loop
-loop-again c = passes-again (c .before .before .before .before .before .before .before .before .before .before .before .loop .inv) (c .before .before .before .before .before .before .before .before .before .before .loop-test .taken) (c .before .before .before .before .before .before .before .before .before .if1 .left) (c .before .before .before .before .before .before .line-pass .ensures) _ (c .before .m .given .1) (c .before .before .before .before .before .before .line-pass .kept .1 .1 .0) (c .before .before .before .before .before .before .line-pass .kept .1 .1 .1 .0)
+loop-again c =
+    let m : tie.After-m Inv-loop μ-loop = search in
+    let l : tie.After-line-pass Inv-loop μ-loop = search in
+    let else1 : tie.Else1 Inv-loop μ-loop = search in
+    let t : tie.In-loop Inv-loop μ-loop = search in
+    let h : tie.At-loop Inv-loop μ-loop = search in
+    passes-again (h .loop .inv) (t .loop-test .taken) (else1 .if1 .left) (l .line-pass .ensures) _ (m .m .given .1) (l .line-pass .kept .1 .1 .0) (l .line-pass .kept .1 .1 .1 .0)
 
 same-length-5 : tie.Need-same-length-5 Inv-loop μ-loop
 same-length-5 c = c .before .loop .inv .going .store-kept

@@ -19,7 +19,11 @@ returns : tie.Need-returns
 returns c = let s : tie.Start = search in through-none (s .args .rect) (s .args .store .now) (s .args .work .now) (s .args .nx) (s .args .prev) (s .args .prev-pt) (s .args .pt) (s .args .ip) (c .before .before .get-intersection .ensures .0) (c .enum-told .given .1)
 
 add-requires : tie.Need-add-requires
-add-requires c κs = let s : tie.Start = search in record { fits = s .pre .fits; close = c .before .before .before .before .before .get-intersection .ensures .1 .reached (s .pre .extent) _ _ (c .before .before .before .ip2 .given .1) }
+add-requires c κs =
+    let i2 : tie.After-ip2 = search in
+    let g : tie.After-get-intersection = search in
+    let s : tie.Start = search in
+    record { fits = s .pre .fits; close = g .get-intersection .ensures .1 .reached (s .pre .extent) _ _ (i2 .ip2 .given .1) }
 
 enum-known-r : tie.Need-enum-known-r
 enum-known-r c = search needs
@@ -37,10 +41,20 @@ same-length-2 : tie.Need-same-length-2
 same-length-2 c = search needs
 
 returns-2 : tie.Need-returns-2
-returns-2 c = let s : tie.Start = search in through-stop (s .args .rect) (s .args .store .now) (s .args .work .now) (s .args .nx) (s .args .prev) (s .args .prev-pt) (s .args .pt) (s .args .ip) (c .before .before .before .before .before .before .before .before .before .before .before .before .get-intersection .ensures .0) (c .before .before .before .before .before .before .before .before .before .before .ip2 .given .1) (c .before .before .before .before .before .before .add .ensures) _ (c .before .enum-told2 .given .1) (c .move-of .ensures)
+returns-2 c =
+    let e2 : tie.After-enum-told2 = search in
+    let a : tie.After-add = search in
+    let i2 : tie.After-ip2 = search in
+    let g : tie.After-get-intersection = search in
+    let s : tie.Start = search in
+    through-stop (s .args .rect) (s .args .store .now) (s .args .work .now) (s .args .nx) (s .args .prev) (s .args .prev-pt) (s .args .pt) (s .args .ip) (g .get-intersection .ensures .0) (i2 .ip2 .given .1) (a .add .ensures) _ (e2 .enum-told2 .given .1) (c .move-of .ensures)
 
 add-requires-2 : tie.Need-add-requires-2
-add-requires-2 c κs = let s : tie.Start = search in record { fits = c .before .before .before .before .before .before .before .before .add .ensures .fits _ (c .before .before .before .r .given .1); close = s .pre .at }
+add-requires-2 c κs =
+    let r : tie.After-r = search in
+    let a : tie.After-add = search in
+    let s : tie.Start = search in
+    record { fits = a .add .ensures .fits _ (r .r .given .1); close = s .pre .at }
 
 move-of-requires-2 : tie.Need-move-of-requires-2
 move-of-requires-2 c κs = search needs
@@ -52,7 +66,14 @@ same-length-4 : tie.Need-same-length-4
 same-length-4 c = search needs
 
 returns-3 : tie.Need-returns-3
-returns-3 c = let s : tie.Start = search in through-go (s .args .rect) (s .args .store .now) (s .args .work .now) (s .args .nx) (s .args .prev) (s .args .prev-pt) (s .args .pt) (s .args .ip) (c .before .before .before .before .before .before .before .before .before .before .before .before .before .before .before .before .before .before .before .get-intersection .ensures .0) (c .before .before .before .before .before .before .before .before .before .before .before .before .before .before .before .before .before .ip2 .given .1) (c .before .before .before .before .before .before .before .before .before .before .before .before .before .add .ensures) _ (c .before .before .before .before .before .before .before .before .r .given .1) (c .before .before .before .before .before .before .before .before .before .before .before .before .before .add .kept .0) (c .before .before .before .before .add2 .ensures) (c .move-of2 .ensures)
+returns-3 c =
+    let a2 : tie.After-add2 = search in
+    let r : tie.After-r = search in
+    let a : tie.After-add = search in
+    let i2 : tie.After-ip2 = search in
+    let g : tie.After-get-intersection = search in
+    let s : tie.Start = search in
+    through-go (s .args .rect) (s .args .store .now) (s .args .work .now) (s .args .nx) (s .args .prev) (s .args .prev-pt) (s .args .pt) (s .args .ip) (g .get-intersection .ensures .0) (i2 .ip2 .given .1) (a .add .ensures) _ (r .r .given .1) (a .add .kept .0) (a2 .add2 .ensures) (c .move-of2 .ensures)
 
 pub line-through-spec : {M : Type 1} → statement M
 line-through-spec =

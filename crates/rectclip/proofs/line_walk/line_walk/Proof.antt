@@ -32,7 +32,14 @@ same-length-2 : tie.Need-same-length-2
 same-length-2 c = search needs
 
 returns-2 : tie.Need-returns-2
-returns-2 c = let s : tie.Start = search in step-by (open-off (s .args .rect) (s .args .path .now) (s .args .store .now) (c .before .before .before .before .before .before .before .before .point-at .ensures) (c .before .before .before .before .before .before .before .get-location .ensures) (c .before .before .before .before .before .before .before .before .before .if1 .left) (c .before .before .before .before .before .before .if2 .taken)) (c .before .before .before .line-walk-from .ensures)
+returns-2 c =
+    let l : tie.After-line-walk-from = search in
+    let then2 : tie.Then2 = search in
+    let g : tie.After-get-location = search in
+    let p : tie.After-point-at = search in
+    let else1 : tie.Else1 = search in
+    let s : tie.Start = search in
+    step-by (open-off (s .args .rect) (s .args .path .now) (s .args .store .now) (p .point-at .ensures) (g .get-location .ensures) (else1 .if1 .left) (then2 .if2 .taken)) (l .line-walk-from .ensures)
 
 first-off-edge-requires : tie.Need-first-off-edge-requires
 first-off-edge-requires c κs = search needs
@@ -56,7 +63,17 @@ same-length-4 : tie.Need-same-length-4
 same-length-4 c = search needs
 
 returns-3 : tie.Need-returns-3
-returns-3 c = let s : tie.Start = search in step-by (open-edges (s .args .rect) (s .args .path .now) (s .args .store .now) (c .before .before .before .before .before .before .before .before .before .before .before .before .point-at .ensures) (c .before .before .before .before .before .before .before .before .before .before .before .get-location .ensures) (c .before .before .before .before .before .before .before .before .before .before .before .before .before .if1 .left) (c .before .before .before .before .before .before .before .before .before .before .if2 .left) (c .before .before .before .before .before .before .before .before .before .first-off-edge .ensures) (c .before .before .before .before .before .before .before .enum-told .given .1)) (from-fresh (s .args .store .now) (s .args .work .now) (λ w. add-all (no-room (length (s .args .store .now) / 2)) w (points-of (s .args .path .now))) (c .before .before .before .before .new2 .ensures) (c .before .before .before .add-all .ensures))
+returns-3 c =
+    let a : tie.After-add-all = search in
+    let n2 : tie.After-new2 = search in
+    let e : tie.After-enum-told = search in
+    let f : tie.After-first-off-edge = search in
+    let else2 : tie.Else2 = search in
+    let g : tie.After-get-location = search in
+    let p : tie.After-point-at = search in
+    let else1 : tie.Else1 = search in
+    let s : tie.Start = search in
+    step-by (open-edges (s .args .rect) (s .args .path .now) (s .args .store .now) (p .point-at .ensures) (g .get-location .ensures) (else1 .if1 .left) (else2 .if2 .left) (f .first-off-edge .ensures) (e .enum-told .given .1)) (from-fresh (s .args .store .now) (s .args .work .now) (λ w. add-all (no-room (length (s .args .store .now) / 2)) w (points-of (s .args .path .now))) (n2 .new2 .ensures) (a .add-all .ensures))
 
 is-inside-requires : tie.Need-is-inside-requires
 is-inside-requires c κs = search needs
@@ -71,7 +88,18 @@ same-length-6 : tie.Need-same-length-6
 same-length-6 c = search needs
 
 returns-4 : tie.Need-returns-4
-returns-4 c = let s : tie.Start = search in step-by (open-inside (s .args .rect) (s .args .path .now) (s .args .store .now) (c .before .before .before .before .before .before .before .before .before .before .before .before .before .before .point-at .ensures) (c .before .before .before .before .before .before .before .before .before .before .before .before .before .get-location .ensures) (c .before .before .before .before .before .before .before .before .before .before .before .before .before .before .before .if1 .left) (c .before .before .before .before .before .before .before .before .before .before .before .before .if2 .left) (c .before .before .before .before .before .before .before .before .before .before .before .first-off-edge .ensures) (c .before .before .before .before .before .before .before .before .before .prev .given .1) (sym (c .before .before .before .before .before .before .before .is-inside .ensures) ∙ c .before .before .before .before .before .before .if3 .taken)) (c .before .before .before .line-walk-from2 .ensures)
+returns-4 c =
+    let l2 : tie.After-line-walk-from2 = search in
+    let then3 : tie.Then3 = search in
+    let i : tie.After-is-inside = search in
+    let prev : tie.After-prev = search in
+    let f : tie.After-first-off-edge = search in
+    let else2 : tie.Else2 = search in
+    let g : tie.After-get-location = search in
+    let point : tie.After-point-at = search in
+    let else1 : tie.Else1 = search in
+    let s : tie.Start = search in
+    step-by (open-inside (s .args .rect) (s .args .path .now) (s .args .store .now) (point .point-at .ensures) (g .get-location .ensures) (else1 .if1 .left) (else2 .if2 .left) (f .first-off-edge .ensures) (prev .prev .given .1) (sym (i .is-inside .ensures) ∙ then3 .if3 .taken)) (l2 .line-walk-from2 .ensures)
 
 line-walk-from-requires-3 : tie.Need-line-walk-from-requires-3
 line-walk-from-requires-3 c κs = let s : tie.Start = search in record { ready = s .pre; some = omega arith }
@@ -83,7 +111,18 @@ same-length-8 : tie.Need-same-length-8
 same-length-8 c = search needs
 
 returns-5 : tie.Need-returns-5
-returns-5 c = let s : tie.Start = search in step-by (open-outside (s .args .rect) (s .args .path .now) (s .args .store .now) (c .before .before .before .before .before .before .before .before .before .before .before .before .before .before .point-at .ensures) (c .before .before .before .before .before .before .before .before .before .before .before .before .before .get-location .ensures) (c .before .before .before .before .before .before .before .before .before .before .before .before .before .before .before .if1 .left) (c .before .before .before .before .before .before .before .before .before .before .before .before .if2 .left) (c .before .before .before .before .before .before .before .before .before .before .before .first-off-edge .ensures) (c .before .before .before .before .before .before .before .before .before .prev .given .1) (sym (c .before .before .before .before .before .before .before .is-inside .ensures) ∙ c .before .before .before .before .before .before .if3 .left)) (c .before .before .before .line-walk-from3 .ensures)
+returns-5 c =
+    let l3 : tie.After-line-walk-from3 = search in
+    let else3 : tie.Else3 = search in
+    let i : tie.After-is-inside = search in
+    let prev : tie.After-prev = search in
+    let f : tie.After-first-off-edge = search in
+    let else2 : tie.Else2 = search in
+    let g : tie.After-get-location = search in
+    let point : tie.After-point-at = search in
+    let else1 : tie.Else1 = search in
+    let s : tie.Start = search in
+    step-by (open-outside (s .args .rect) (s .args .path .now) (s .args .store .now) (point .point-at .ensures) (g .get-location .ensures) (else1 .if1 .left) (else2 .if2 .left) (f .first-off-edge .ensures) (prev .prev .given .1) (sym (i .is-inside .ensures) ∙ else3 .if3 .left)) (l3 .line-walk-from3 .ensures)
 
 pub line-walk-spec : {M : Type 1} → statement M
 line-walk-spec =

@@ -21,10 +21,17 @@ same-length-2 : tie.Need-same-length-2
 same-length-2 c = search needs
 
 returns : tie.Need-returns
-returns c = let s : tie.Start = search in walk-lost (s .args .rect) (s .args .path .now) (s .args .store .now) (s .args .loc) (c .before .before .before .before .before .first-point .ensures) _ (c .enum-told .given .1)
+returns c =
+    let f : tie.After-first-point = search in
+    let s : tie.Start = search in
+    walk-lost (s .args .rect) (s .args .path .now) (s .args .store .now) (s .args .loc) (f .first-point .ensures) _ (c .enum-told .given .1)
 
 line-passes-requires : tie.Need-line-passes-requires
-line-passes-requires c κs = let s : tie.Start = search in record { fits = c .before .before .before .before .before .before .before .before .first-point .ensures .fits _ (c .before .before .before .r .given .1); sheet = s .pre .ready .sheet; begun = omega arith }
+line-passes-requires c κs =
+    let r : tie.After-r = search in
+    let f : tie.After-first-point = search in
+    let s : tie.Start = search in
+    record { fits = f .first-point .ensures .fits _ (r .r .given .1); sheet = s .pre .ready .sheet; begun = omega arith }
 
 step-of-requires : tie.Need-step-of-requires
 step-of-requires c κs = search needs
@@ -36,7 +43,12 @@ same-length-4 : tie.Need-same-length-4
 same-length-4 c = search needs
 
 returns-2 : tie.Need-returns-2
-returns-2 c = let s : tie.Start = search in walk-passed (s .args .rect) (s .args .path .now) (s .args .store .now) (s .args .loc) (c .before .before .before .before .before .before .before .before .before .before .before .before .before .first-point .ensures) _ (c .before .before .before .before .before .before .before .before .r .given .1) (c .before .before .before .before .before .before .before .before .before .before .before .before .before .first-point .kept .1 .0) (c .before .before .before .before .line-passes .ensures) (c .step-of .ensures)
+returns-2 c =
+    let l : tie.After-line-passes = search in
+    let r : tie.After-r = search in
+    let f : tie.After-first-point = search in
+    let s : tie.Start = search in
+    walk-passed (s .args .rect) (s .args .path .now) (s .args .store .now) (s .args .loc) (f .first-point .ensures) _ (r .r .given .1) (f .first-point .kept .1 .0) (l .line-passes .ensures) (c .step-of .ensures)
 
 pub line-walk-from-spec : {M : Type 1} → statement M
 line-walk-from-spec =

@@ -19,7 +19,12 @@ same-length-2 : tie.Need-same-length-2
 same-length-2 c = search needs
 
 returns : tie.Need-returns
-returns c = let s : tie.Start = search in rw (← next-as-inside _ (s .args .rect) _ _ (s .args .s .loc) (s .args .s .i) (sym (c .before .before .before .before .before .before .before .is-inside .ensures) ∙ c .before .before .before .before .before .before .if1 .taken)) (c .before .before .before .next-inside .ensures)
+returns c =
+    let n : tie.After-next-inside = search in
+    let then1 : tie.Then1 = search in
+    let i : tie.After-is-inside = search in
+    let s : tie.Start = search in
+    rw (← next-as-inside _ (s .args .rect) _ _ (s .args .s .loc) (s .args .s .i) (sym (i .is-inside .ensures) ∙ then1 .if1 .taken)) (n .next-inside .ensures)
 
 next-outside-requires : tie.Need-next-outside-requires
 next-outside-requires c κs = sym (c .before .is-inside .ensures) ∙ c .if1 .left

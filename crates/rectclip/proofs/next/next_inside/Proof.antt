@@ -28,16 +28,30 @@ is-inside-requires : tie.Need-is-inside-requires Inv-loop μ-loop
 is-inside-requires c κs = search needs
 
 same-length : tie.Need-same-length Inv-loop μ-loop
-same-length c = c .before .before .before .before .before .loop .inv .going .store-kept
+same-length c =
+    let h : tie.At-loop Inv-loop μ-loop = search in
+    h .loop .inv .going .store-kept
 
 same-length-2 : tie.Need-same-length-2 Inv-loop μ-loop
-same-length-2 c = c .before .before .before .before .before .loop .inv .going .work-kept
+same-length-2 c =
+    let h : tie.At-loop Inv-loop μ-loop = search in
+    h .loop .inv .going .work-kept
 
 returns : tie.Need-returns Inv-loop μ-loop
-returns c = inside-exits (c .before .before .before .before .before .loop .inv) (c .before .before .before .before .loop-test .taken) (c .before .before .before .point-at .ensures) (c .before .before .exit-side .ensures) (c .before .is-inside .ensures) (not-true _ (c .if1 .taken))
+returns c =
+    let i : tie.After-is-inside Inv-loop μ-loop = search in
+    let e : tie.After-exit-side Inv-loop μ-loop = search in
+    let p : tie.After-point-at Inv-loop μ-loop = search in
+    let t : tie.In-loop Inv-loop μ-loop = search in
+    let h : tie.At-loop Inv-loop μ-loop = search in
+    inside-exits (h .loop .inv) (t .loop-test .taken) (p .point-at .ensures) (e .exit-side .ensures) (i .is-inside .ensures) (not-true _ (c .if1 .taken))
 
 add-requires : tie.Need-add-requires Inv-loop μ-loop
-add-requires c κs = let s : tie.Start Inv-loop μ-loop = search in record { fits = c .before .before .before .before .before .before .before .loop .inv .going .fits; close = rw (c .before .before .before .before .before .point-at .ensures) (reached (path-limited (s .args .path .now) (s .pre .sheet .points) (c .before .before .before .before .before .before .before .loop .i))) }
+add-requires c κs =
+    let p : tie.After-point-at Inv-loop μ-loop = search in
+    let h : tie.At-loop Inv-loop μ-loop = search in
+    let s : tie.Start Inv-loop μ-loop = search in
+    record { fits = h .loop .inv .going .fits; close = rw (p .point-at .ensures) (reached (path-limited (s .args .path .now) (s .pre .sheet .points) (h .loop .i))) }
 
 enum-known-v : tie.Need-enum-known-v Inv-loop μ-loop
 enum-known-v c = search needs
@@ -46,13 +60,28 @@ enum-known-k : tie.Need-enum-known-k Inv-loop μ-loop
 enum-known-k c = search needs
 
 same-length-3 : tie.Need-same-length-3 Inv-loop μ-loop
-same-length-3 c = c .before .before .before .before .before .before .add .kept .0 ∙ c .before .before .before .before .before .before .before .before .before .before .before .before .before .before .loop .inv .going .store-kept
+same-length-3 c =
+    let a : tie.After-add Inv-loop μ-loop = search in
+    let h : tie.At-loop Inv-loop μ-loop = search in
+    a .add .kept .0 ∙ h .loop .inv .going .store-kept
 
 same-length-4 : tie.Need-same-length-4 Inv-loop μ-loop
-same-length-4 c = c .before .before .before .before .before .before .add .kept .1 .0 ∙ c .before .before .before .before .before .before .before .before .before .before .before .before .before .before .loop .inv .going .work-kept
+same-length-4 c =
+    let a : tie.After-add Inv-loop μ-loop = search in
+    let h : tie.At-loop Inv-loop μ-loop = search in
+    a .add .kept .1 .0 ∙ h .loop .inv .going .work-kept
 
 returns-2 : tie.Need-returns-2 Inv-loop μ-loop
-returns-2 c = inside-lost (c .before .before .before .before .before .before .before .before .before .before .before .before .before .before .loop .inv) (c .before .before .before .before .before .before .before .before .before .before .before .before .before .loop-test .taken) (c .before .before .before .before .before .before .before .before .before .before .before .before .point-at .ensures) (c .before .before .before .before .before .before .before .before .before .before .before .exit-side .ensures) (c .before .before .before .before .before .before .before .before .before .before .is-inside .ensures) (not-false _ (c .before .before .before .before .before .before .before .before .before .if1 .left)) (c .before .before .before .before .before .before .add .ensures) _ (c .before .k .given .1)
+returns-2 c =
+    let k : tie.After-k Inv-loop μ-loop = search in
+    let a : tie.After-add Inv-loop μ-loop = search in
+    let else1 : tie.Else1 Inv-loop μ-loop = search in
+    let i : tie.After-is-inside Inv-loop μ-loop = search in
+    let e : tie.After-exit-side Inv-loop μ-loop = search in
+    let p : tie.After-point-at Inv-loop μ-loop = search in
+    let t : tie.In-loop Inv-loop μ-loop = search in
+    let h : tie.At-loop Inv-loop μ-loop = search in
+    inside-lost (h .loop .inv) (t .loop-test .taken) (p .point-at .ensures) (e .exit-side .ensures) (i .is-inside .ensures) (not-false _ (else1 .if1 .left)) (a .add .ensures) _ (k .k .given .1)
 
 add-i : tie.Need-add-i Inv-loop μ-loop
 add-i c = search needs
@@ -61,7 +90,16 @@ loop-less : tie.Need-loop-less Inv-loop μ-loop
 loop-less c = search needs
 
 loop-again : tie.Need-loop-again Inv-loop μ-loop
-loop-again c = inside-again (c .before .before .before .before .before .before .before .before .before .before .before .before .before .before .loop .inv) (c .before .before .before .before .before .before .before .before .before .before .before .before .before .loop-test .taken) (c .before .before .before .before .before .before .before .before .before .before .before .before .point-at .ensures) (c .before .before .before .before .before .before .before .before .before .before .before .exit-side .ensures) (c .before .before .before .before .before .before .before .before .before .before .is-inside .ensures) (not-false _ (c .before .before .before .before .before .before .before .before .before .if1 .left)) (c .before .before .before .before .before .before .add .ensures) _ (c .before .v .given .1) (c .before .before .before .before .before .before .add .kept .0) (c .before .before .before .before .before .before .add .kept .1 .0)
+loop-again c =
+    let v : tie.After-v Inv-loop μ-loop = search in
+    let a : tie.After-add Inv-loop μ-loop = search in
+    let else1 : tie.Else1 Inv-loop μ-loop = search in
+    let i : tie.After-is-inside Inv-loop μ-loop = search in
+    let e : tie.After-exit-side Inv-loop μ-loop = search in
+    let p : tie.After-point-at Inv-loop μ-loop = search in
+    let t : tie.In-loop Inv-loop μ-loop = search in
+    let h : tie.At-loop Inv-loop μ-loop = search in
+    inside-again (h .loop .inv) (t .loop-test .taken) (p .point-at .ensures) (e .exit-side .ensures) (i .is-inside .ensures) (not-false _ (else1 .if1 .left)) (a .add .ensures) _ (v .v .given .1) (a .add .kept .0) (a .add .kept .1 .0)
 
 same-length-5 : tie.Need-same-length-5 Inv-loop μ-loop
 same-length-5 c = c .before .loop .inv .going .store-kept

@@ -20,7 +20,13 @@ next-side-requires : tie.Need-next-side-requires
 next-side-requires c κs = search needs
 
 returns-2 : tie.Need-returns-2
-returns-2 c = let s : tie.Start = search in outside-met (c .before .before .before .before .line-of .ensures) (s .args .path .now) (s .args .from) (c .before .before .before .scan .ensures) (c .before .before .if1 .left) (c .before .point-at .ensures) (c .next-side .ensures)
+returns-2 c =
+    let p : tie.After-point-at = search in
+    let else1 : tie.Else1 = search in
+    let scan : tie.After-scan = search in
+    let l : tie.After-line-of = search in
+    let s : tie.Start = search in
+    outside-met (l .line-of .ensures) (s .args .path .now) (s .args .from) (scan .scan .ensures) (else1 .if1 .left) (p .point-at .ensures) (c .next-side .ensures)
 
 pub next-outside-spec : {M : Type 1} → statement M
 next-outside-spec =

@@ -20,7 +20,14 @@ beyond-or-on-requires-2 : tie.Need-beyond-or-on-requires-2
 beyond-or-on-requires-2 c κs = search needs
 
 returns-2 : tie.Need-returns-2
-returns-2 c = let s : tie.Start = search in side-lower (s .args .rect) (s .args .s) (s .args .p) (c .before .before .before .before .before .opposite .ensures) (c .before .before .before .before .beyond-or-on .ensures) (c .before .before .before .if1 .left) (c .before .before .lower .ensures) (c .before .beyond-or-on2 .ensures) (c .if2 .taken)
+returns-2 c =
+    let b2 : tie.After-beyond-or-on2 = search in
+    let l : tie.After-lower = search in
+    let else1 : tie.Else1 = search in
+    let b : tie.After-beyond-or-on = search in
+    let o : tie.After-opposite = search in
+    let s : tie.Start = search in
+    side-lower (s .args .rect) (s .args .s) (s .args .p) (o .opposite .ensures) (b .beyond-or-on .ensures) (else1 .if1 .left) (l .lower .ensures) (b2 .beyond-or-on2 .ensures) (c .if2 .taken)
 
 upper-requires : tie.Need-upper-requires
 upper-requires c κs = search needs
@@ -29,10 +36,30 @@ beyond-or-on-requires-3 : tie.Need-beyond-or-on-requires-3
 beyond-or-on-requires-3 c κs = search needs
 
 returns-3 : tie.Need-returns-3
-returns-3 c = let s : tie.Start = search in side-upper (s .args .rect) (s .args .s) (s .args .p) (c .before .before .before .before .before .before .before .before .opposite .ensures) (c .before .before .before .before .before .before .before .beyond-or-on .ensures) (c .before .before .before .before .before .before .if1 .left) (c .before .before .before .before .before .lower .ensures) (c .before .before .before .before .beyond-or-on2 .ensures) (c .before .before .before .if2 .left) (c .before .before .upper .ensures) (c .before .beyond-or-on3 .ensures) (c .if3 .taken)
+returns-3 c =
+    let b3 : tie.After-beyond-or-on3 = search in
+    let u : tie.After-upper = search in
+    let else2 : tie.Else2 = search in
+    let b2 : tie.After-beyond-or-on2 = search in
+    let l : tie.After-lower = search in
+    let else1 : tie.Else1 = search in
+    let b : tie.After-beyond-or-on = search in
+    let o : tie.After-opposite = search in
+    let s : tie.Start = search in
+    side-upper (s .args .rect) (s .args .s) (s .args .p) (o .opposite .ensures) (b .beyond-or-on .ensures) (else1 .if1 .left) (l .lower .ensures) (b2 .beyond-or-on2 .ensures) (else2 .if2 .left) (u .upper .ensures) (b3 .beyond-or-on3 .ensures) (c .if3 .taken)
 
 returns-4 : tie.Need-returns-4
-returns-4 c = let s : tie.Start = search in side-inside (s .args .rect) (s .args .s) (s .args .p) (c .before .before .before .before .before .before .before .before .opposite .ensures) (c .before .before .before .before .before .before .before .beyond-or-on .ensures) (c .before .before .before .before .before .before .if1 .left) (c .before .before .before .before .before .lower .ensures) (c .before .before .before .before .beyond-or-on2 .ensures) (c .before .before .before .if2 .left) (c .before .before .upper .ensures) (c .before .beyond-or-on3 .ensures) (c .if3 .left)
+returns-4 c =
+    let b3 : tie.After-beyond-or-on3 = search in
+    let u : tie.After-upper = search in
+    let else2 : tie.Else2 = search in
+    let b2 : tie.After-beyond-or-on2 = search in
+    let l : tie.After-lower = search in
+    let else1 : tie.Else1 = search in
+    let b : tie.After-beyond-or-on = search in
+    let o : tie.After-opposite = search in
+    let s : tie.Start = search in
+    side-inside (s .args .rect) (s .args .s) (s .args .p) (o .opposite .ensures) (b .beyond-or-on .ensures) (else1 .if1 .left) (l .lower .ensures) (b2 .beyond-or-on2 .ensures) (else2 .if2 .left) (u .upper .ensures) (b3 .beyond-or-on3 .ensures) (c .if3 .left)
 
 pub next-side-spec : {M : Type 1} → statement M
 next-side-spec =

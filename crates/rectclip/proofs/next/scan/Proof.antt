@@ -33,7 +33,13 @@ is-past-requires : tie.Need-is-past-requires Inv-loop μ-loop
 is-past-requires c κs = search needs
 
 returns : tie.Need-returns Inv-loop μ-loop
-returns c = scan-stops (c .before .before .before .before .loop .inv) (let s : tie.Start Inv-loop μ-loop = search in s .pre) (c .before .before .before .loop-test .taken) (back (c .before .before .is-past-arg .given) refl) (c .before .is-past .ensures) (not-true _ (c .if1 .taken))
+returns c =
+    let past : tie.After-is-past Inv-loop μ-loop = search in
+    let arg : tie.After-is-past-arg Inv-loop μ-loop = search in
+    let t : tie.In-loop Inv-loop μ-loop = search in
+    let h : tie.At-loop Inv-loop μ-loop = search in
+    let s : tie.Start Inv-loop μ-loop = search in
+    scan-stops (h .loop .inv) (s .pre) (t .loop-test .taken) (back (arg .is-past-arg .given) refl) (past .is-past .ensures) (not-true _ (c .if1 .taken))
 
 add-i : tie.Need-add-i Inv-loop μ-loop
 add-i c = search needs
@@ -42,7 +48,13 @@ loop-less : tie.Need-loop-less Inv-loop μ-loop
 loop-less c = search needs
 
 loop-again : tie.Need-loop-again Inv-loop μ-loop
-loop-again c = scan-again (c .before .before .before .before .loop .inv) (let s : tie.Start Inv-loop μ-loop = search in s .pre) (c .before .before .before .loop-test .taken) (back (c .before .before .is-past-arg .given) refl) (c .before .is-past .ensures) (not-false _ (c .if1 .left))
+loop-again c =
+    let past : tie.After-is-past Inv-loop μ-loop = search in
+    let arg : tie.After-is-past-arg Inv-loop μ-loop = search in
+    let t : tie.In-loop Inv-loop μ-loop = search in
+    let h : tie.At-loop Inv-loop μ-loop = search in
+    let s : tie.Start Inv-loop μ-loop = search in
+    scan-again (h .loop .inv) (s .pre) (t .loop-test .taken) (back (arg .is-past-arg .given) refl) (past .is-past .ensures) (not-false _ (c .if1 .left))
 
 returns-2 : tie.Need-returns-2 Inv-loop μ-loop
 returns-2 c = scan-ends (c .before .loop .inv) (c .loop-test .left)

@@ -14,7 +14,12 @@ contains-point-requires : tie.Need-contains-point-requires
 contains-point-requires c κs = search needs
 
 returns : tie.Need-returns
-returns c = contains-none (c .before .before .before .before .args .rect) (c .before .before .before .before .args .path .now) (c .before .before .before .get-bounds-path .ensures) (c .before .before .mid-point .ensures) (c .before .contains-point .ensures) (c .if1 .taken)
+returns c =
+    let contains : tie.After-contains-point = search in
+    let m : tie.After-mid-point = search in
+    let g : tie.After-get-bounds-path = search in
+    let s : tie.Start = search in
+    contains-none (s .args .rect) (s .args .path .now) (g .get-bounds-path .ensures) (m .mid-point .ensures) (contains .contains-point .ensures) (c .if1 .taken)
 
 corners-requires : tie.Need-corners-requires
 corners-requires c κs = search needs
@@ -23,10 +28,20 @@ slice-aggregate-path1-contains-path2 : tie.Need-slice-aggregate-path1-contains-p
 slice-aggregate-path1-contains-path2 c = search needs
 
 path1-contains-path2-requires : tie.Need-path1-contains-path2-requires
-path1-contains-path2-requires c κs = both-paths (c .before .before .before .before .before .before .pre) (c .before .corners .ensures)
+path1-contains-path2-requires c κs =
+    let corners : tie.After-corners = search in
+    let s : tie.Start = search in
+    both-paths (s .pre) (corners .corners .ensures)
 
 returns-2 : tie.Need-returns-2
-returns-2 c = contains-asked (c .before .before .before .before .before .before .before .args .rect) (c .before .before .before .before .before .before .before .args .path .now) (c .before .before .before .before .before .before .get-bounds-path .ensures) (c .before .before .before .before .before .mid-point .ensures) (c .before .before .before .before .contains-point .ensures) (c .before .before .before .if1 .left) (c .before .before .corners .ensures) (c .path1-contains-path2 .ensures)
+returns-2 c =
+    let corners : tie.After-corners = search in
+    let else1 : tie.Else1 = search in
+    let contains : tie.After-contains-point = search in
+    let m : tie.After-mid-point = search in
+    let g : tie.After-get-bounds-path = search in
+    let s : tie.Start = search in
+    contains-asked (s .args .rect) (s .args .path .now) (g .get-bounds-path .ensures) (m .mid-point .ensures) (contains .contains-point .ensures) (else1 .if1 .left) (corners .corners .ensures) (c .path1-contains-path2 .ensures)
 
 pub contains-rect-spec : {M : Type 1} → statement M
 contains-rect-spec =

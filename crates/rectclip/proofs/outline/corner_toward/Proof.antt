@@ -8,7 +8,10 @@ equals-requires : tie.Need-equals-requires
 equals-requires c κs = search needs
 
 returns : tie.Need-returns
-returns c = toward-kept (c .before .before .before .args .rect) (c .before .before .before .args .store .now) (c .before .before .before .args .work .now) (c .before .before .before .args .s) (c .before .before .before .args .p) (c .before .before .before .args .q) (c .before .equals .ensures) (c .before .before .before .pre .fits) (c .if1 .taken)
+returns c =
+    let e : tie.After-equals = search in
+    let s : tie.Start = search in
+    toward-kept (s .args .rect) (s .args .store .now) (s .args .work .now) (s .args .s) (s .args .p) (s .args .q) (e .equals .ensures) (s .pre .fits) (c .if1 .taken)
 
 heading-clockwise-requires : tie.Need-heading-clockwise-requires
 heading-clockwise-requires c κs = search needs
@@ -23,7 +26,13 @@ same-length-2 : tie.Need-same-length-2
 same-length-2 c = search needs
 
 returns-2 : tie.Need-returns-2
-returns-2 c = toward-added (c .before .before .before .before .before .before .before .before .before .before .args .rect) (c .before .before .before .before .before .before .before .before .before .before .args .store .now) (c .before .before .before .before .before .before .before .before .before .before .args .work .now) (c .before .before .before .before .before .before .before .before .before .before .args .s) (c .before .before .before .before .before .before .before .before .before .before .args .p) (c .before .before .before .before .before .before .before .before .before .before .args .q) (c .before .before .before .before .before .before .before .before .equals .ensures) (c .before .before .before .before .before .before .before .if1 .left) (c .before .before .before .before .heading-clockwise .ensures) (c .before .before .before .add-corner-loc .ensures)
+returns-2 c =
+    let a : tie.After-add-corner-loc = search in
+    let h : tie.After-heading-clockwise = search in
+    let else1 : tie.Else1 = search in
+    let e : tie.After-equals = search in
+    let s : tie.Start = search in
+    toward-added (s .args .rect) (s .args .store .now) (s .args .work .now) (s .args .s) (s .args .p) (s .args .q) (e .equals .ensures) (else1 .if1 .left) (h .heading-clockwise .ensures) (a .add-corner-loc .ensures)
 
 pub corner-toward-spec : {M : Type 1} → statement M
 corner-toward-spec =

@@ -36,7 +36,12 @@ loop-less : tie.Need-loop-less Inv-loop μ-loop
 loop-less c = omega arith
 
 loop-again : tie.Need-loop-again Inv-loop μ-loop
-loop-again c = count-again (c .before .before .before .before .loop .inv) (c .before .before .before .loop-test .taken) (c .before .before .start-loc .ensures) (c .before .start-loc2 .ensures) (c .turned-by .ensures)
+loop-again c =
+    let start2 : tie.After-start-loc2 Inv-loop μ-loop = search in
+    let start : tie.After-start-loc Inv-loop μ-loop = search in
+    let t : tie.In-loop Inv-loop μ-loop = search in
+    let h : tie.At-loop Inv-loop μ-loop = search in
+    count-again (h .loop .inv) (t .loop-test .taken) (start .start-loc .ensures) (start2 .start-loc2 .ensures) (c .turned-by .ensures)
 
 returns : tie.Need-returns Inv-loop μ-loop
 returns c = count-done (c .before .before .loop .inv) (c .before .loop-test .left)

@@ -12,13 +12,21 @@ outline-of-requires : tie.Need-outline-of-requires
 outline-of-requires c κs = search needs
 
 returns : tie.Need-returns
-returns c = surround-none (c .before .before .before .before .args .rect) (c .before .before .before .before .args .path .now) (c .before .before .before .before .args .store .now) (c .before .before .before .before .args .work .now) (c .before .before .before .before .args .s) (c .before .before .contains-rect .ensures) (c .before .before .before .before .pre .fits) (c .before .if1 .taken) (c .outline-of .ensures)
+returns c =
+    let then1 : tie.Then1 = search in
+    let contains : tie.After-contains-rect = search in
+    let s : tie.Start = search in
+    surround-none (s .args .rect) (s .args .path .now) (s .args .store .now) (s .args .work .now) (s .args .s) (contains .contains-rect .ensures) (s .pre .fits) (then1 .if1 .taken) (c .outline-of .ensures)
 
 start-locs-are-clockwise-requires : tie.Need-start-locs-are-clockwise-requires
-start-locs-are-clockwise-requires c κs = (omega (arith, c .before .before .before .before .pre .fits .start-locs, c .before .before .before .before .pre .fits .room .cells), omega (arith, c .before .before .before .before .pre .fits .start-locs, c .before .before .before .before .pre .fits .few))
+start-locs-are-clockwise-requires c κs =
+    let s : tie.Start = search in
+    (omega (arith, s .pre .fits .start-locs, s .pre .fits .room .cells), omega (arith, s .pre .fits .start-locs, s .pre .fits .few))
 
 add-round-requires : tie.Need-add-round-requires
-add-round-requires c κs = record { fits = c .before .before .before .before .before .before .before .pre .fits; limit = c .before .before .before .before .before .before .before .pre .paired .sheet .frame }
+add-round-requires c κs =
+    let s : tie.Start = search in
+    record { fits = s .pre .fits; limit = s .pre .paired .sheet .frame }
 
 round-of-requires : tie.Need-round-of-requires
 round-of-requires c κs = search needs
@@ -33,7 +41,14 @@ same-length-2 : tie.Need-same-length-2
 same-length-2 c = search needs
 
 returns-2 : tie.Need-returns-2
-returns-2 c = surround-all (c .before .before .before .before .before .before .before .before .before .before .before .before .before .args .rect) (c .before .before .before .before .before .before .before .before .before .before .before .before .before .args .path .now) (c .before .before .before .before .before .before .before .before .before .before .before .before .before .args .store .now) (c .before .before .before .before .before .before .before .before .before .before .before .before .before .args .work .now) (c .before .before .before .before .before .before .before .before .before .before .before .before .before .args .s) (c .before .before .before .before .before .before .before .before .before .before .before .contains-rect .ensures) (c .before .before .before .before .before .before .before .before .before .before .before .before .before .pre .paired .sheet .extent) (c .before .before .before .before .before .before .before .before .before .before .if1 .left) (c .before .before .before .before .before .before .before .before .start-locs-are-clockwise .ensures) (c .before .before .before .before .before .add-round .ensures) (c .before .round-of .ensures) (c .outline-of2 .ensures)
+returns-2 c =
+    let r : tie.After-round-of = search in
+    let a : tie.After-add-round = search in
+    let start : tie.After-start-locs-are-clockwise = search in
+    let else1 : tie.Else1 = search in
+    let contains : tie.After-contains-rect = search in
+    let s : tie.Start = search in
+    surround-all (s .args .rect) (s .args .path .now) (s .args .store .now) (s .args .work .now) (s .args .s) (contains .contains-rect .ensures) (s .pre .paired .sheet .extent) (else1 .if1 .left) (start .start-locs-are-clockwise .ensures) (a .add-round .ensures) (r .round-of .ensures) (c .outline-of2 .ensures)
 
 pub surround-spec : {M : Type 1} → statement M
 surround-spec =

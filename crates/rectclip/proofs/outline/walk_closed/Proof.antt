@@ -11,7 +11,11 @@ outline-of-requires : tie.Need-outline-of-requires
 outline-of-requires c κs = search needs
 
 returns : tie.Need-returns
-returns c = walk-none (c .before .before .before .before .args .rect) (c .before .before .before .before .args .path .now) (c .before .before .before .before .args .store .now) (c .before .before .before .before .args .work .now) (c .before .before .before .before .pre .room) (c .before .before .before .before .pre .few) (c .before .before .if1 .taken) (c .before .new .ensures) (c .outline-of .ensures)
+returns c =
+    let n : tie.After-new = search in
+    let then1 : tie.Then1 = search in
+    let s : tie.Start = search in
+    walk-none (s .args .rect) (s .args .path .now) (s .args .store .now) (s .args .work .now) (s .pre .room) (s .pre .few) (then1 .if1 .taken) (n .new .ensures) (c .outline-of .ensures)
 
 sub-point-at : tie.Need-sub-point-at
 sub-point-at c = search needs
@@ -32,7 +36,14 @@ same-length-2 : tie.Need-same-length-2
 same-length-2 c = search needs
 
 returns-2 : tie.Need-returns-2
-returns-2 c = walk-off (c .before .before .before .before .before .before .before .before .before .before .before .args .rect) (c .before .before .before .before .before .before .before .before .before .before .before .args .path .now) (c .before .before .before .before .before .before .before .before .before .before .before .args .store .now) (c .before .before .before .before .before .before .before .before .before .before .before .args .work .now) (c .before .before .before .before .before .before .before .before .before .if1 .left) (c .before .before .before .before .before .before .before .before .point-at .ensures) (c .before .before .before .before .before .before .before .get-location .ensures) (c .before .before .before .before .before .before .if2 .taken) (c .before .before .before .walk-from .ensures)
+returns-2 c =
+    let w : tie.After-walk-from = search in
+    let then2 : tie.Then2 = search in
+    let g : tie.After-get-location = search in
+    let p : tie.After-point-at = search in
+    let else1 : tie.Else1 = search in
+    let s : tie.Start = search in
+    walk-off (s .args .rect) (s .args .path .now) (s .args .store .now) (s .args .work .now) (else1 .if1 .left) (p .point-at .ensures) (g .get-location .ensures) (then2 .if2 .taken) (w .walk-from .ensures)
 
 sub-last-off : tie.Need-sub-last-off
 sub-last-off c = search needs
@@ -50,7 +61,9 @@ new-requires-2 : tie.Need-new-requires-2
 new-requires-2 c κs = search needs
 
 add-all-requires : tie.Need-add-all-requires
-add-all-requires c κs = record { fits = new-fits (c .new2 .ensures) (c .before .before .before .before .before .before .before .before .before .before .before .pre .room) (c .before .before .before .before .before .before .before .before .before .before .before .pre .few); limit = c .before .before .before .before .before .before .before .before .before .before .before .pre .paired .sheet .points }
+add-all-requires c κs =
+    let s : tie.Start = search in
+    record { fits = new-fits (c .new2 .ensures) (s .pre .room) (s .pre .few); limit = s .pre .paired .sheet .points }
 
 outline-of-requires-2 : tie.Need-outline-of-requires-2
 outline-of-requires-2 c κs = search needs
@@ -62,7 +75,17 @@ same-length-4 : tie.Need-same-length-4
 same-length-4 c = search needs
 
 returns-3 : tie.Need-returns-3
-returns-3 c = walk-edges (c .before .before .before .before .before .before .before .before .before .before .before .before .before .before .before .before .args .rect) (c .before .before .before .before .before .before .before .before .before .before .before .before .before .before .before .before .args .path .now) (c .before .before .before .before .before .before .before .before .before .before .before .before .before .before .before .before .args .store .now) (c .before .before .before .before .before .before .before .before .before .before .before .before .before .before .before .before .args .work .now) (c .before .before .before .before .before .before .before .before .before .before .before .before .before .before .if1 .left) (c .before .before .before .before .before .before .before .before .before .before .before .before .before .point-at .ensures) (c .before .before .before .before .before .before .before .before .before .before .before .before .get-location .ensures) (c .before .before .before .before .before .before .before .before .before .before .before .if2 .left) (c .before .before .before .before .before .before .before .before .before .before .last-off .ensures) (c .before .before .before .before .before .before .before .before .enum-told .given .1) (c .before .before .before .before .before .new2 .ensures) (c .before .before .before .before .add-all .ensures) (c .outline-of2 .ensures)
+returns-3 c =
+    let a : tie.After-add-all = search in
+    let n2 : tie.After-new2 = search in
+    let e : tie.After-enum-told = search in
+    let l : tie.After-last-off = search in
+    let else2 : tie.Else2 = search in
+    let g : tie.After-get-location = search in
+    let p : tie.After-point-at = search in
+    let else1 : tie.Else1 = search in
+    let s : tie.Start = search in
+    walk-edges (s .args .rect) (s .args .path .now) (s .args .store .now) (s .args .work .now) (else1 .if1 .left) (p .point-at .ensures) (g .get-location .ensures) (else2 .if2 .left) (l .last-off .ensures) (e .enum-told .given .1) (n2 .new2 .ensures) (a .add-all .ensures) (c .outline-of2 .ensures)
 
 is-inside-requires : tie.Need-is-inside-requires
 is-inside-requires c κs = search needs
@@ -77,7 +100,18 @@ same-length-6 : tie.Need-same-length-6
 same-length-6 c = search needs
 
 returns-4 : tie.Need-returns-4
-returns-4 c = walk-inside (c .before .before .before .before .before .before .before .before .before .before .before .before .before .before .before .before .before .args .rect) (c .before .before .before .before .before .before .before .before .before .before .before .before .before .before .before .before .before .args .path .now) (c .before .before .before .before .before .before .before .before .before .before .before .before .before .before .before .before .before .args .store .now) (c .before .before .before .before .before .before .before .before .before .before .before .before .before .before .before .before .before .args .work .now) (c .before .before .before .before .before .before .before .before .before .before .before .before .before .before .before .if1 .left) (c .before .before .before .before .before .before .before .before .before .before .before .before .before .before .point-at .ensures) (c .before .before .before .before .before .before .before .before .before .before .before .before .before .get-location .ensures) (c .before .before .before .before .before .before .before .before .before .before .before .before .if2 .left) (c .before .before .before .before .before .before .before .before .before .before .before .last-off .ensures) (c .before .before .before .before .before .before .before .before .before .prev .given .1) (c .before .before .before .before .before .before .before .is-inside .ensures) (c .before .before .before .before .before .before .if3 .taken) (c .before .before .before .walk-from2 .ensures)
+returns-4 c =
+    let w2 : tie.After-walk-from2 = search in
+    let then3 : tie.Then3 = search in
+    let i : tie.After-is-inside = search in
+    let prev : tie.After-prev = search in
+    let l : tie.After-last-off = search in
+    let else2 : tie.Else2 = search in
+    let g : tie.After-get-location = search in
+    let point : tie.After-point-at = search in
+    let else1 : tie.Else1 = search in
+    let s : tie.Start = search in
+    walk-inside (s .args .rect) (s .args .path .now) (s .args .store .now) (s .args .work .now) (else1 .if1 .left) (point .point-at .ensures) (g .get-location .ensures) (else2 .if2 .left) (l .last-off .ensures) (prev .prev .given .1) (i .is-inside .ensures) (then3 .if3 .taken) (w2 .walk-from2 .ensures)
 
 walk-from-requires-3 : tie.Need-walk-from-requires-3
 walk-from-requires-3 c κs = search needs
@@ -89,7 +123,18 @@ same-length-8 : tie.Need-same-length-8
 same-length-8 c = search needs
 
 returns-5 : tie.Need-returns-5
-returns-5 c = walk-outside (c .before .before .before .before .before .before .before .before .before .before .before .before .before .before .before .before .before .args .rect) (c .before .before .before .before .before .before .before .before .before .before .before .before .before .before .before .before .before .args .path .now) (c .before .before .before .before .before .before .before .before .before .before .before .before .before .before .before .before .before .args .store .now) (c .before .before .before .before .before .before .before .before .before .before .before .before .before .before .before .before .before .args .work .now) (c .before .before .before .before .before .before .before .before .before .before .before .before .before .before .before .if1 .left) (c .before .before .before .before .before .before .before .before .before .before .before .before .before .before .point-at .ensures) (c .before .before .before .before .before .before .before .before .before .before .before .before .before .get-location .ensures) (c .before .before .before .before .before .before .before .before .before .before .before .before .if2 .left) (c .before .before .before .before .before .before .before .before .before .before .before .last-off .ensures) (c .before .before .before .before .before .before .before .before .before .prev .given .1) (c .before .before .before .before .before .before .before .is-inside .ensures) (c .before .before .before .before .before .before .if3 .left) (c .before .before .before .walk-from3 .ensures)
+returns-5 c =
+    let w3 : tie.After-walk-from3 = search in
+    let else3 : tie.Else3 = search in
+    let i : tie.After-is-inside = search in
+    let prev : tie.After-prev = search in
+    let l : tie.After-last-off = search in
+    let else2 : tie.Else2 = search in
+    let g : tie.After-get-location = search in
+    let point : tie.After-point-at = search in
+    let else1 : tie.Else1 = search in
+    let s : tie.Start = search in
+    walk-outside (s .args .rect) (s .args .path .now) (s .args .store .now) (s .args .work .now) (else1 .if1 .left) (point .point-at .ensures) (g .get-location .ensures) (else2 .if2 .left) (l .last-off .ensures) (prev .prev .given .1) (i .is-inside .ensures) (else3 .if3 .left) (w3 .walk-from3 .ensures)
 
 pub walk-closed-spec : {M : Type 1} → statement M
 walk-closed-spec =

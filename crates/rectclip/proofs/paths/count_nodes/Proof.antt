@@ -16,23 +16,23 @@ next-of-requires c κs = search needs
 
 loop-holds : tie.Need-loop-holds Inv-loop μ-loop
 loop-holds c =
-    let s = c .before .before in
-    let next-of = c .next-of in
-    counting-start (s .args .start) (next-of .result) (s .pre .0) (s .pre .1) (next-of .ensures)
+    let s : tie.Start Inv-loop μ-loop = search in
+    counting-start (s .args .start) (c .next-of .result) (s .pre .0) (s .pre .1) (c .next-of .ensures)
 
 returns : tie.Need-returns Inv-loop μ-loop
 returns c = counting-stop (c .before .before .loop .inv) (c .if1 .taken)
 
 next-of-requires-2 : tie.Need-next-of-requires-2 Inv-loop μ-loop
 next-of-requires-2 c κs =
-    let s = c .before .before .before .before .before in
-    (s .pre .0, c .before .before .loop .inv .here)
+    let h : tie.At-loop Inv-loop μ-loop = search in
+    let s : tie.Start Inv-loop μ-loop = search in
+    (s .pre .0, h .loop .inv .here)
 
 add-count : tie.Need-add-count Inv-loop μ-loop
 add-count c =
-    let h = c .before .before .before .loop in
-    let s = c .before .before .before .before .before .before in
-    omega (arith, h .inv .most, s .pre .0 .nodes, s .pre .0 .room .small)
+    let h : tie.At-loop Inv-loop μ-loop = search in
+    let s : tie.Start Inv-loop μ-loop = search in
+    omega (arith, h .loop .inv .most, s .pre .0 .nodes, s .pre .0 .room .small)
 
 sub-left : tie.Need-sub-left Inv-loop μ-loop
 sub-left c = search needs
@@ -42,10 +42,11 @@ loop-less c = search needs
 
 loop-again : tie.Need-loop-again Inv-loop μ-loop
 loop-again c =
-    let h = c .before .before .before .loop in
-    let s = c .before .before .before .before .before .before in
-    let next-of2 = c .next-of2 in
-    counting-again (h .inv) (s .pre .0) (c .before .before .loop-test .taken) (c .before .if1 .left) (next-of2 .result) (next-of2 .ensures)
+    let else1 : tie.Else1 Inv-loop μ-loop = search in
+    let t : tie.In-loop Inv-loop μ-loop = search in
+    let h : tie.At-loop Inv-loop μ-loop = search in
+    let s : tie.Start Inv-loop μ-loop = search in
+    counting-again (h .loop .inv) (s .pre .0) (t .loop-test .taken) (else1 .if1 .left) (c .next-of2 .result) (c .next-of2 .ensures)
 
 returns-2 : tie.Need-returns-2 Inv-loop μ-loop
 returns-2 c = counting-out (c .before .loop .inv) (c .loop-test .left)

@@ -18,14 +18,15 @@ loop-holds c =
 
 count-result-requires : tie.Need-count-result-requires Inv-loop μ-loop
 count-result-requires c κs =
-    let s = c .before .before .before in
-    let h = c .before .loop in
-    (s .pre, c .loop-test .taken, h .inv .most-paths, h .inv .most-points)
+    let h : tie.At-loop Inv-loop μ-loop = search in
+    let s : tie.Start Inv-loop μ-loop = search in
+    (s .pre, c .loop-test .taken, h .loop .inv .most-paths, h .loop .inv .most-points)
 
 add-i : tie.Need-add-i Inv-loop μ-loop
 add-i c =
-    let s = c .before .before .before .before in
-    omega (arith, c .before .loop-test .taken, s .pre .results, s .pre .room .small)
+    let t : tie.In-loop Inv-loop μ-loop = search in
+    let s : tie.Start Inv-loop μ-loop = search in
+    omega (arith, t .loop-test .taken, s .pre .results, s .pre .room .small)
 
 loop-less : tie.Need-loop-less Inv-loop μ-loop
 loop-less c = omega (arith, c .before .loop-test .taken)

@@ -11,30 +11,30 @@ result-of-requires c κs = search needs
 
 returns : tie.Need-returns
 returns c =
-    let s = c .before .before .before in
-    let result-of = c .before .result-of in
-    counts-none (s .args .i) (s .args .so-far) (s .pre .2) (s .pre .3) (result-of .result) (result-of .ensures) (c .if1 .taken)
+    let r : tie.After-result-of = search in
+    let s : tie.Start = search in
+    counts-none (s .args .i) (s .args .so-far) (s .pre .2) (s .pre .3) (r .result-of .result) (r .result-of .ensures) (c .if1 .taken)
 
 count-nodes-requires : tie.Need-count-nodes-requires
 count-nodes-requires c κs =
-    let s = c .before .before .before in
-    let result-of = c .before .result-of in
-    (s .pre .0, rw (result-of .ensures) (s .pre .0 .valid .result-in (s .args .i) (s .pre .1) (λ w. c .if1 .left (result-of .ensures ∙ w))))
+    let r : tie.After-result-of = search in
+    let s : tie.Start = search in
+    (s .pre .0, rw (r .result-of .ensures) (s .pre .0 .valid .result-in (s .args .i) (s .pre .1) (λ w. c .if1 .left (r .result-of .ensures ∙ w))))
 
 add-t10 : tie.Need-add-t10
 add-t10 c = search needs
 
 add-t11 : tie.Need-add-t11
 add-t11 c =
-    let s = c .before .before .before .before in
+    let s : tie.Start = search in
     omega (arith, c .count-nodes .ensures .most, counts-fit (s .args .i) (s .args .s .nodes) (s .args .so-far .points) (omega (arith, s .pre .1, s .pre .0 .results, s .pre .0 .room .small)) (omega (arith, s .pre .0 .nodes, s .pre .0 .room .small)) (s .pre .3))
 
 returns-2 : tie.Need-returns-2
 returns-2 c =
-    let s = c .before .before .before .before in
-    let result-of = c .before .before .result-of in
-    let count-nodes = c .count-nodes in
-    counts-some (s .args .i) (s .args .so-far) (s .pre .2) (s .pre .3) (result-of .result) (result-of .ensures) (c .before .if1 .left) (count-nodes .result) (count-nodes .ensures)
+    let else1 : tie.Else1 = search in
+    let r : tie.After-result-of = search in
+    let s : tie.Start = search in
+    counts-some (s .args .i) (s .args .so-far) (s .pre .2) (s .pre .3) (r .result-of .result) (r .result-of .ensures) (else1 .if1 .left) (c .count-nodes .result) (c .count-nodes .ensures)
 
 pub count-result-spec : {M : Type 1} → statement M
 count-result-spec =

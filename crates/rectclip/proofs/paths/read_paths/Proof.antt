@@ -16,27 +16,27 @@ loop-holds c = writing-start (c .before .before .pre)
 
 read-result-requires : tie.Need-read-result-requires Inv-loop μ-loop
 read-result-requires c κs =
-    let h = c .before .before .before .loop in
-    let t = c .before .before .loop-test in
-    (writing-may (h .inv) (t .taken), t .taken)
+    let t : tie.In-loop Inv-loop μ-loop = search in
+    let h : tie.At-loop Inv-loop μ-loop = search in
+    (writing-may (h .loop .inv) (t .loop-test .taken), t .loop-test .taken)
 
 add-i : tie.Need-add-i Inv-loop μ-loop
 add-i c =
-    let t = c .before .before .before .before .before .before .loop-test in
-    let s = c .before .before .before .before .before .before .before .before .before .before in
-    omega (arith, t .taken, s .pre .holds .results, s .pre .holds .room .small)
+    let t : tie.In-loop Inv-loop μ-loop = search in
+    let s : tie.Start Inv-loop μ-loop = search in
+    omega (arith, t .loop-test .taken, s .pre .holds .results, s .pre .holds .room .small)
 
 loop-less : tie.Need-loop-less Inv-loop μ-loop
 loop-less c =
-    let t = c .before .before .before .before .before .before .loop-test in
-    omega (arith, t .taken)
+    let t : tie.In-loop Inv-loop μ-loop = search in
+    omega (arith, t .loop-test .taken)
 
 loop-again : tie.Need-loop-again Inv-loop μ-loop
 loop-again c =
-    let h = c .before .before .before .before .before .before .before .loop in
-    let t = c .before .before .before .before .before .before .loop-test in
-    let read-result = c .before .before .before .read-result in
-    writing-again (h .inv) (t .taken) (read-result .result) (read-result .ensures)
+    let r : tie.After-read-result Inv-loop μ-loop = search in
+    let t : tie.In-loop Inv-loop μ-loop = search in
+    let h : tie.At-loop Inv-loop μ-loop = search in
+    writing-again (h .loop .inv) (t .loop-test .taken) (r .read-result .result) (r .read-result .ensures)
 
 same-length : tie.Need-same-length Inv-loop μ-loop
 same-length c = c .before .loop .inv .same-coordinates

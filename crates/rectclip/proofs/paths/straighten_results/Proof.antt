@@ -22,36 +22,37 @@ result-of-requires c κs = (c .before .before .loop .inv .holds, c .before .loop
 
 get-start-requires : tie.Need-get-start-requires Inv-loop μ-loop
 get-start-requires c κs =
-    let s = c .before .before .before .before .before .before in
-    let h = c .before .before .before .before .loop in
-    let result-of = c .before .result-of in
-    let t = c .before .before .before .loop-test in
-    (s .pre .0, h .inv .holds, λ q. rw (result-of .ensures) (h .inv .holds .valid .result-in (h .i) (t .taken) (λ w. q (result-of .ensures ∙ w))))
+    let r : tie.After-result-of Inv-loop μ-loop = search in
+    let t : tie.In-loop Inv-loop μ-loop = search in
+    let h : tie.At-loop Inv-loop μ-loop = search in
+    let s : tie.Start Inv-loop μ-loop = search in
+    (s .pre .0, h .loop .inv .holds, λ q. rw (r .result-of .ensures) (h .loop .inv .holds .valid .result-in (h .loop .i) (t .loop-test .taken) (λ w. q (r .result-of .ensures ∙ w))))
 
 set-result-requires : tie.Need-set-result-requires Inv-loop μ-loop
 set-result-requires c κs =
-    let get-start = c .before .before .before .get-start in
-    let t = c .before .before .before .before .before .before .before .loop-test in
-    (get-start .ensures .leaves .holds, t .taken, get-start .ensures .start-in)
+    let g : tie.After-get-start Inv-loop μ-loop = search in
+    let t : tie.In-loop Inv-loop μ-loop = search in
+    (g .get-start .ensures .leaves .holds, t .loop-test .taken, g .get-start .ensures .start-in)
 
 add-i : tie.Need-add-i Inv-loop μ-loop
 add-i c =
-    let t = c .before .before .before .before .before .before .before .before .before .before .loop-test in
-    let s = c .before .before .before .before .before .before .before .before .before .before .before .before .before in
-    omega (arith, t .taken, s .pre .1 .results, s .pre .1 .room .small)
+    let t : tie.In-loop Inv-loop μ-loop = search in
+    let s : tie.Start Inv-loop μ-loop = search in
+    omega (arith, t .loop-test .taken, s .pre .1 .results, s .pre .1 .room .small)
 
 loop-less : tie.Need-loop-less Inv-loop μ-loop
 loop-less c =
-    let t = c .before .before .before .before .before .before .before .before .before .before .loop-test in
-    omega (arith, t .taken)
+    let t : tie.In-loop Inv-loop μ-loop = search in
+    omega (arith, t .loop-test .taken)
 
 loop-again : tie.Need-loop-again Inv-loop μ-loop
 loop-again c =
-    let h = c .before .before .before .before .before .before .before .before .before .before .before .loop in
-    let t = c .before .before .before .before .before .before .before .before .before .before .loop-test in
-    let result-of = c .before .before .before .before .before .before .before .before .result-of in
-    let get-start = c .before .before .before .before .before .before .get-start in
-    straightened-again (h .inv) (t .taken) (result-of .result) (get-start .result) (result-of .ensures) (get-start .ensures) (c .before .before .set-result .ensures)
+    let set : tie.After-set-result Inv-loop μ-loop = search in
+    let g : tie.After-get-start Inv-loop μ-loop = search in
+    let r : tie.After-result-of Inv-loop μ-loop = search in
+    let t : tie.In-loop Inv-loop μ-loop = search in
+    let h : tie.At-loop Inv-loop μ-loop = search in
+    straightened-again (h .loop .inv) (t .loop-test .taken) (r .result-of .result) (g .get-start .result) (r .result-of .ensures) (g .get-start .ensures) (set .set-result .ensures)
 
 same-length : tie.Need-same-length Inv-loop μ-loop
 same-length c = c .before .loop .inv .same

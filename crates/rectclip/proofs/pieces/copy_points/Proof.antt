@@ -22,16 +22,32 @@ put-point-requires : tie.Need-put-point-requires Inv-loop μ-loop
 put-point-requires c κs = copying-fits (let s : tie.Start Inv-loop μ-loop = search in s .pre) (c .before .before .before .loop .inv) (c .before .before .loop-test .taken) .1
 
 add-i : tie.Need-add-i Inv-loop μ-loop
-add-i c = let f = copying-fits (let s : tie.Start Inv-loop μ-loop = search in s .pre) (c .before .before .before .before .before .loop .inv) (c .before .before .before .before .loop-test .taken) in omega (arith, f .0, f .1)
+add-i c =
+    let t : tie.In-loop Inv-loop μ-loop = search in
+    let h : tie.At-loop Inv-loop μ-loop = search in
+    let s : tie.Start Inv-loop μ-loop = search in
+    let f = copying-fits (s .pre) (h .loop .inv) (t .loop-test .taken) in
+    omega (arith, f .0, f .1)
 
 add-k : tie.Need-add-k Inv-loop μ-loop
-add-k c = let f = copying-fits (let s : tie.Start Inv-loop μ-loop = search in s .pre) (c .before .before .before .before .before .loop .inv) (c .before .before .before .before .loop-test .taken) in omega (arith, f .0, f .1)
+add-k c =
+    let t : tie.In-loop Inv-loop μ-loop = search in
+    let h : tie.At-loop Inv-loop μ-loop = search in
+    let s : tie.Start Inv-loop μ-loop = search in
+    let f = copying-fits (s .pre) (h .loop .inv) (t .loop-test .taken) in
+    omega (arith, f .0, f .1)
 
 loop-less : tie.Need-loop-less Inv-loop μ-loop
 loop-less c = search needs
 
 loop-again : tie.Need-loop-again Inv-loop μ-loop
-loop-again c = copying-more (let s : tie.Start Inv-loop μ-loop = search in s .pre) (c .before .before .before .before .before .loop .inv) (c .before .before .before .before .loop-test .taken) (c .before .before .point-at .ensures) (c .before .put-point .ensures) (c .before .put-point .kept .0)
+loop-again c =
+    let put : tie.After-put-point Inv-loop μ-loop = search in
+    let point : tie.After-point-at Inv-loop μ-loop = search in
+    let t : tie.In-loop Inv-loop μ-loop = search in
+    let h : tie.At-loop Inv-loop μ-loop = search in
+    let s : tie.Start Inv-loop μ-loop = search in
+    copying-more (s .pre) (h .loop .inv) (t .loop-test .taken) (point .point-at .ensures) (put .put-point .ensures) (put .put-point .kept .0)
 
 same-length : tie.Need-same-length Inv-loop μ-loop
 same-length c = c .before .loop .inv .kept

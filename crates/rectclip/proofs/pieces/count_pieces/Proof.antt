@@ -28,25 +28,58 @@ add-if1 : tie.Need-add-if1 Inv-loop μ-loop
 add-if1 c = let f = count-fits (let s : tie.Start Inv-loop μ-loop = search in s .pre) (c .before .before .before .loop .inv) (c .before .before .loop-test .taken) (c .before .start-of .ensures) (c .start-of2 .ensures) in omega (arith, f .0, f .1, f .2, f .3)
 
 add-paths : tie.Need-add-paths Inv-loop μ-loop
-add-paths c = let f = count-fits (let s : tie.Start Inv-loop μ-loop = search in s .pre) (c .before .before .before .before .loop .inv) (c .before .before .before .loop-test .taken) (c .before .before .start-of .ensures) (c .before .start-of2 .ensures) in omega (arith, f .0, f .1, f .2, f .3)
+add-paths c =
+    let start2 : tie.After-start-of2 Inv-loop μ-loop = search in
+    let start : tie.After-start-of Inv-loop μ-loop = search in
+    let t : tie.In-loop Inv-loop μ-loop = search in
+    let h : tie.At-loop Inv-loop μ-loop = search in
+    let s : tie.Start Inv-loop μ-loop = search in
+    let f = count-fits (s .pre) (h .loop .inv) (t .loop-test .taken) (start .start-of .ensures) (start2 .start-of2 .ensures) in
+    omega (arith, f .0, f .1, f .2, f .3)
 
 sub-points : tie.Need-sub-points Inv-loop μ-loop
-sub-points c = let f = count-fits (let s : tie.Start Inv-loop μ-loop = search in s .pre) (c .before .before .before .before .loop .inv) (c .before .before .before .loop-test .taken) (c .before .before .start-of .ensures) (c .before .start-of2 .ensures) in omega (arith, f .0, f .1, f .2, f .3, c .if1 .taken)
+sub-points c =
+    let start2 : tie.After-start-of2 Inv-loop μ-loop = search in
+    let start : tie.After-start-of Inv-loop μ-loop = search in
+    let t : tie.In-loop Inv-loop μ-loop = search in
+    let h : tie.At-loop Inv-loop μ-loop = search in
+    let s : tie.Start Inv-loop μ-loop = search in
+    let f = count-fits (s .pre) (h .loop .inv) (t .loop-test .taken) (start .start-of .ensures) (start2 .start-of2 .ensures) in
+    omega (arith, f .0, f .1, f .2, f .3, c .if1 .taken)
 
 add-points : tie.Need-add-points Inv-loop μ-loop
-add-points c = let f = count-fits (let s : tie.Start Inv-loop μ-loop = search in s .pre) (c .before .before .before .before .loop .inv) (c .before .before .before .loop-test .taken) (c .before .before .start-of .ensures) (c .before .start-of2 .ensures) in omega (arith, f .0, f .1, f .2, f .3)
+add-points c =
+    let start2 : tie.After-start-of2 Inv-loop μ-loop = search in
+    let start : tie.After-start-of Inv-loop μ-loop = search in
+    let t : tie.In-loop Inv-loop μ-loop = search in
+    let h : tie.At-loop Inv-loop μ-loop = search in
+    let s : tie.Start Inv-loop μ-loop = search in
+    let f = count-fits (s .pre) (h .loop .inv) (t .loop-test .taken) (start .start-of .ensures) (start2 .start-of2 .ensures) in
+    omega (arith, f .0, f .1, f .2, f .3)
 
 loop-less : tie.Need-loop-less Inv-loop μ-loop
 loop-less c = search needs
 
 loop-again : tie.Need-loop-again Inv-loop μ-loop
-loop-again c = count-more (let s : tie.Start Inv-loop μ-loop = search in s .pre) (c .before .before .before .before .loop .inv) (c .before .before .before .loop-test .taken) (c .before .before .start-of .ensures) (c .before .start-of2 .ensures) (c .if1 .taken)
+loop-again c =
+    let start2 : tie.After-start-of2 Inv-loop μ-loop = search in
+    let start : tie.After-start-of Inv-loop μ-loop = search in
+    let t : tie.In-loop Inv-loop μ-loop = search in
+    let h : tie.At-loop Inv-loop μ-loop = search in
+    let s : tie.Start Inv-loop μ-loop = search in
+    count-more (s .pre) (h .loop .inv) (t .loop-test .taken) (start .start-of .ensures) (start2 .start-of2 .ensures) (c .if1 .taken)
 
 loop-less-2 : tie.Need-loop-less-2 Inv-loop μ-loop
 loop-less-2 c = search needs
 
 loop-again-2 : tie.Need-loop-again-2 Inv-loop μ-loop
-loop-again-2 c = count-same (let s : tie.Start Inv-loop μ-loop = search in s .pre) (c .before .before .before .before .loop .inv) (c .before .before .before .loop-test .taken) (c .before .before .start-of .ensures) (c .before .start-of2 .ensures) (c .if1 .left)
+loop-again-2 c =
+    let start2 : tie.After-start-of2 Inv-loop μ-loop = search in
+    let start : tie.After-start-of Inv-loop μ-loop = search in
+    let t : tie.In-loop Inv-loop μ-loop = search in
+    let h : tie.At-loop Inv-loop μ-loop = search in
+    let s : tie.Start Inv-loop μ-loop = search in
+    count-same (s .pre) (h .loop .inv) (t .loop-test .taken) (start .start-of .ensures) (start2 .start-of2 .ensures) (c .if1 .left)
 
 returns : tie.Need-returns Inv-loop μ-loop
 returns c = count-done (let s : tie.Start Inv-loop μ-loop = search in s .pre) (c .before .loop .inv) (c .loop-test .left)

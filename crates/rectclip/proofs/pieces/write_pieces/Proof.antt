@@ -29,40 +29,113 @@ add-if1 : tie.Need-add-if1 Inv-loop μ-loop
 add-if1 c = let f = count-fits ((let s : tie.Start Inv-loop μ-loop = search in s .pre) .fits) (c .before .before .before .loop .inv .counting) (c .before .before .loop-test .taken) (c .before .start-of .ensures) (c .start-of2 .ensures) in omega (arith, f .0, f .1, f .2, f .3)
 
 copy-points-requires : tie.Need-copy-points-requires Inv-loop μ-loop
-copy-points-requires c κs = writes-piece (let s : tie.Start Inv-loop μ-loop = search in s .pre) (c .before .before .before .before .before .loop .inv) (c .before .before .before .before .loop-test .taken) (c .before .before .before .start-of .ensures) (c .before .before .start-of2 .ensures) (c .before .if1 .taken)
+copy-points-requires c κs =
+    let then1 : tie.Then1 Inv-loop μ-loop = search in
+    let start2 : tie.After-start-of2 Inv-loop μ-loop = search in
+    let start : tie.After-start-of Inv-loop μ-loop = search in
+    let t : tie.In-loop Inv-loop μ-loop = search in
+    let h : tie.At-loop Inv-loop μ-loop = search in
+    let s : tie.Start Inv-loop μ-loop = search in
+    writes-piece (s .pre) (h .loop .inv) (t .loop-test .taken) (start .start-of .ensures) (start2 .start-of2 .ensures) (then1 .if1 .taken)
 
 sub-lengths : tie.Need-sub-lengths Inv-loop μ-loop
-sub-lengths c = let f = count-fits ((let s : tie.Start Inv-loop μ-loop = search in s .pre) .fits) (c .before .before .before .before .before .before .before .loop .inv .counting) (c .before .before .before .before .before .before .loop-test .taken) (c .before .before .before .before .before .start-of .ensures) (c .before .before .before .before .start-of2 .ensures) in omega (arith, f .0, f .1, f .2, f .3, c .before .before .before .if1 .taken)
+sub-lengths c =
+    let then1 : tie.Then1 Inv-loop μ-loop = search in
+    let start2 : tie.After-start-of2 Inv-loop μ-loop = search in
+    let start : tie.After-start-of Inv-loop μ-loop = search in
+    let t : tie.In-loop Inv-loop μ-loop = search in
+    let h : tie.At-loop Inv-loop μ-loop = search in
+    let s : tie.Start Inv-loop μ-loop = search in
+    let f = count-fits (s .pre .fits) (h .loop .inv .counting) (t .loop-test .taken) (start .start-of .ensures) (start2 .start-of2 .ensures) in
+    omega (arith, f .0, f .1, f .2, f .3, then1 .if1 .taken)
 
 cast-lengths : tie.Need-cast-lengths Inv-loop μ-loop
-cast-lengths c = let f = count-fits ((let s : tie.Start Inv-loop μ-loop = search in s .pre) .fits) (c .before .before .before .before .before .before .before .loop .inv .counting) (c .before .before .before .before .before .before .loop-test .taken) (c .before .before .before .before .before .start-of .ensures) (c .before .before .before .before .start-of2 .ensures) in omega (arith, f .0, f .1, f .2, f .3)
+cast-lengths c =
+    let start2 : tie.After-start-of2 Inv-loop μ-loop = search in
+    let start : tie.After-start-of Inv-loop μ-loop = search in
+    let t : tie.In-loop Inv-loop μ-loop = search in
+    let h : tie.At-loop Inv-loop μ-loop = search in
+    let s : tie.Start Inv-loop μ-loop = search in
+    let f = count-fits (s .pre .fits) (h .loop .inv .counting) (t .loop-test .taken) (start .start-of .ensures) (start2 .start-of2 .ensures) in
+    omega (arith, f .0, f .1, f .2, f .3)
 
 mul-lengths : tie.Need-mul-lengths Inv-loop μ-loop
-mul-lengths c = let f = writes-slot (let s : tie.Start Inv-loop μ-loop = search in s .pre) (c .before .before .before .before .before .before .before .loop .inv) (c .before .before .before .before .before .before .loop-test .taken) (c .before .before .before .before .before .start-of .ensures) (c .before .before .before .before .start-of2 .ensures) (c .before .before .before .if1 .taken) in search needs
+mul-lengths c =
+    let then1 : tie.Then1 Inv-loop μ-loop = search in
+    let start2 : tie.After-start-of2 Inv-loop μ-loop = search in
+    let start : tie.After-start-of Inv-loop μ-loop = search in
+    let t : tie.In-loop Inv-loop μ-loop = search in
+    let h : tie.At-loop Inv-loop μ-loop = search in
+    let s : tie.Start Inv-loop μ-loop = search in
+    let f = writes-slot (s .pre) (h .loop .inv) (t .loop-test .taken) (start .start-of .ensures) (start2 .start-of2 .ensures) (then1 .if1 .taken) in
+    search needs
 
 slice-write-lengths : tie.Need-slice-write-lengths Inv-loop μ-loop
-slice-write-lengths c = writes-slot (let s : tie.Start Inv-loop μ-loop = search in s .pre) (c .before .before .before .before .before .before .before .loop .inv) (c .before .before .before .before .before .before .loop-test .taken) (c .before .before .before .before .before .start-of .ensures) (c .before .before .before .before .start-of2 .ensures) (c .before .before .before .if1 .taken)
+slice-write-lengths c =
+    let then1 : tie.Then1 Inv-loop μ-loop = search in
+    let start2 : tie.After-start-of2 Inv-loop μ-loop = search in
+    let start : tie.After-start-of Inv-loop μ-loop = search in
+    let t : tie.In-loop Inv-loop μ-loop = search in
+    let h : tie.At-loop Inv-loop μ-loop = search in
+    let s : tie.Start Inv-loop μ-loop = search in
+    writes-slot (s .pre) (h .loop .inv) (t .loop-test .taken) (start .start-of .ensures) (start2 .start-of2 .ensures) (then1 .if1 .taken)
 
 add-paths : tie.Need-add-paths Inv-loop μ-loop
-add-paths c = let f = count-fits ((let s : tie.Start Inv-loop μ-loop = search in s .pre) .fits) (c .before .before .before .before .before .before .before .loop .inv .counting) (c .before .before .before .before .before .before .loop-test .taken) (c .before .before .before .before .before .start-of .ensures) (c .before .before .before .before .start-of2 .ensures) in omega (arith, f .0, f .1, f .2, f .3)
+add-paths c =
+    let start2 : tie.After-start-of2 Inv-loop μ-loop = search in
+    let start : tie.After-start-of Inv-loop μ-loop = search in
+    let t : tie.In-loop Inv-loop μ-loop = search in
+    let h : tie.At-loop Inv-loop μ-loop = search in
+    let s : tie.Start Inv-loop μ-loop = search in
+    let f = count-fits (s .pre .fits) (h .loop .inv .counting) (t .loop-test .taken) (start .start-of .ensures) (start2 .start-of2 .ensures) in
+    omega (arith, f .0, f .1, f .2, f .3)
 
 sub-points : tie.Need-sub-points Inv-loop μ-loop
-sub-points c = let f = count-fits ((let s : tie.Start Inv-loop μ-loop = search in s .pre) .fits) (c .before .before .before .before .before .before .before .loop .inv .counting) (c .before .before .before .before .before .before .loop-test .taken) (c .before .before .before .before .before .start-of .ensures) (c .before .before .before .before .start-of2 .ensures) in omega (arith, f .0, f .1, f .2, f .3, c .before .before .before .if1 .taken)
+sub-points c =
+    let then1 : tie.Then1 Inv-loop μ-loop = search in
+    let start2 : tie.After-start-of2 Inv-loop μ-loop = search in
+    let start : tie.After-start-of Inv-loop μ-loop = search in
+    let t : tie.In-loop Inv-loop μ-loop = search in
+    let h : tie.At-loop Inv-loop μ-loop = search in
+    let s : tie.Start Inv-loop μ-loop = search in
+    let f = count-fits (s .pre .fits) (h .loop .inv .counting) (t .loop-test .taken) (start .start-of .ensures) (start2 .start-of2 .ensures) in
+    omega (arith, f .0, f .1, f .2, f .3, then1 .if1 .taken)
 
 add-points : tie.Need-add-points Inv-loop μ-loop
-add-points c = let f = count-fits ((let s : tie.Start Inv-loop μ-loop = search in s .pre) .fits) (c .before .before .before .before .before .before .before .loop .inv .counting) (c .before .before .before .before .before .before .loop-test .taken) (c .before .before .before .before .before .start-of .ensures) (c .before .before .before .before .start-of2 .ensures) in omega (arith, f .0, f .1, f .2, f .3)
+add-points c =
+    let start2 : tie.After-start-of2 Inv-loop μ-loop = search in
+    let start : tie.After-start-of Inv-loop μ-loop = search in
+    let t : tie.In-loop Inv-loop μ-loop = search in
+    let h : tie.At-loop Inv-loop μ-loop = search in
+    let s : tie.Start Inv-loop μ-loop = search in
+    let f = count-fits (s .pre .fits) (h .loop .inv .counting) (t .loop-test .taken) (start .start-of .ensures) (start2 .start-of2 .ensures) in
+    omega (arith, f .0, f .1, f .2, f .3)
 
 loop-less : tie.Need-loop-less Inv-loop μ-loop
 loop-less c = search needs
 
 loop-again : tie.Need-loop-again Inv-loop μ-loop
-loop-again c = writing-more (let s : tie.Start Inv-loop μ-loop = search in s .pre) (c .before .before .before .before .before .before .before .loop .inv) (c .before .before .before .before .before .before .loop-test .taken) (c .before .before .before .before .before .start-of .ensures) (c .before .before .before .before .start-of2 .ensures) (c .before .before .before .if1 .taken) (c .before .copy-points .ensures) (c .before .copy-points .kept .1 .1 .1 .0)
+loop-again c =
+    let copy : tie.After-copy-points Inv-loop μ-loop = search in
+    let then1 : tie.Then1 Inv-loop μ-loop = search in
+    let start2 : tie.After-start-of2 Inv-loop μ-loop = search in
+    let start : tie.After-start-of Inv-loop μ-loop = search in
+    let t : tie.In-loop Inv-loop μ-loop = search in
+    let h : tie.At-loop Inv-loop μ-loop = search in
+    let s : tie.Start Inv-loop μ-loop = search in
+    writing-more (s .pre) (h .loop .inv) (t .loop-test .taken) (start .start-of .ensures) (start2 .start-of2 .ensures) (then1 .if1 .taken) (copy .copy-points .ensures) (copy .copy-points .kept .1 .1 .1 .0)
 
 loop-less-2 : tie.Need-loop-less-2 Inv-loop μ-loop
 loop-less-2 c = search needs
 
 loop-again-2 : tie.Need-loop-again-2 Inv-loop μ-loop
-loop-again-2 c = writing-same (let s : tie.Start Inv-loop μ-loop = search in s .pre) (c .before .before .before .before .loop .inv) (c .before .before .before .loop-test .taken) (c .before .before .start-of .ensures) (c .before .start-of2 .ensures) (c .if1 .left)
+loop-again-2 c =
+    let start2 : tie.After-start-of2 Inv-loop μ-loop = search in
+    let start : tie.After-start-of Inv-loop μ-loop = search in
+    let t : tie.In-loop Inv-loop μ-loop = search in
+    let h : tie.At-loop Inv-loop μ-loop = search in
+    let s : tie.Start Inv-loop μ-loop = search in
+    writing-same (s .pre) (h .loop .inv) (t .loop-test .taken) (start .start-of .ensures) (start2 .start-of2 .ensures) (c .if1 .left)
 
 same-length : tie.Need-same-length Inv-loop μ-loop
 same-length c = c .before .loop .inv .coords-kept

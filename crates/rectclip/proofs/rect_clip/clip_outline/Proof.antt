@@ -17,10 +17,17 @@ walked-arena-requires : tie.Need-walked-arena-requires
 walked-arena-requires c κs = arranging (c .before .before .before .pre)
 
 clip-walked-requires : tie.Need-clip-walked-requires
-clip-walked-requires c κs = may-clip (c .before .before .before .before .before .before .before .pre) (c .before .before .before .walked-arena .ensures)
+clip-walked-requires c κs =
+    let w : tie.After-walked-arena = search in
+    let s : tie.Start = search in
+    may-clip (s .pre) (w .walked-arena .ensures)
 
 deliver-paths-requires : tie.Need-deliver-paths-requires
-deliver-paths-requires c κs = readable (c .before .before .before .before .before .before .before .before .before .before .before .before .before .pre) (c .before .before .before .before .before .before .before .before .before .walked-arena .ensures) (c .before .before .before .before .before .clip-walked .result) (c .before .before .before .before .before .clip-walked .ensures)
+deliver-paths-requires c κs =
+    let clip : tie.After-clip-walked = search in
+    let w : tie.After-walked-arena = search in
+    let s : tie.Start = search in
+    readable (s .pre) (w .walked-arena .ensures) (clip .clip-walked .result) (clip .clip-walked .ensures)
 
 same-length : tie.Need-same-length
 same-length c = search needs
@@ -32,7 +39,12 @@ same-length-3 : tie.Need-same-length-3
 same-length-3 c = search needs
 
 returns : tie.Need-returns
-returns c = gives-same (sym (clipped-is (c .before .before .before .before .before .before .before .before .before .before .before .before .before .before .before .before .before .pre) (c .before .before .before .before .before .before .before .before .before .before .before .before .before .walked-arena .ensures) (c .before .before .before .before .before .before .before .before .before .clip-walked .result) (c .before .before .before .before .before .before .before .before .before .clip-walked .ensures))) (c .before .before .before .deliver-paths .ensures)
+returns c =
+    let d : tie.After-deliver-paths = search in
+    let clip : tie.After-clip-walked = search in
+    let w : tie.After-walked-arena = search in
+    let s : tie.Start = search in
+    gives-same (sym (clipped-is (s .pre) (w .walked-arena .ensures) (clip .clip-walked .result) (clip .clip-walked .ensures))) (d .deliver-paths .ensures)
 
 pub clip-outline-spec : {M : Type 1} → statement M
 clip-outline-spec =

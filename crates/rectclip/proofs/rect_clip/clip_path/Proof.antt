@@ -11,7 +11,11 @@ enum-known-o : tie.Need-enum-known-o
 enum-known-o c = search needs
 
 clip-outline-requires : tie.Need-clip-outline-requires
-clip-outline-requires c κs = outline-clips (c .before .before .before .before .before .before .before .before .before .before .before .before .before .before .before .pre) (c .before .before .before .before .before .before .before .before .before .before .walk-closed .ensures) _ (c .before .before .before .before .before .o .given .1) (c .before .before .before .before .before .before .before .before .before .before .walk-closed .kept .1 .1 .0) (c .before .before .before .before .before .before .before .before .before .before .walk-closed .kept .1 .1 .1 .0)
+clip-outline-requires c κs =
+    let o : tie.After-o = search in
+    let w : tie.After-walk-closed = search in
+    let s : tie.Start = search in
+    outline-clips (s .pre) (w .walk-closed .ensures) _ (o .o .given .1) (w .walk-closed .kept .1 .1 .0) (w .walk-closed .kept .1 .1 .1 .0)
 
 enum-known-why : tie.Need-enum-known-why
 enum-known-why c = search needs
@@ -29,7 +33,12 @@ same-length-4 : tie.Need-same-length-4
 same-length-4 c = search needs
 
 returns : tie.Need-returns
-returns c = walk-gives (c .before .before .before .before .before .before .before .before .before .before .before .before .before .before .before .before .before .before .before .before .before .pre) (c .before .before .before .before .before .before .before .before .before .before .before .before .before .before .before .before .walk-closed .ensures) _ (c .before .before .before .before .before .before .before .before .before .before .before .o .given .1) (c .before .before .before .before .before .clip-outline .ensures)
+returns c =
+    let clip : tie.After-clip-outline = search in
+    let o : tie.After-o = search in
+    let w : tie.After-walk-closed = search in
+    let s : tie.Start = search in
+    walk-gives (s .pre) (w .walk-closed .ensures) _ (o .o .given .1) (clip .clip-outline .ensures)
 
 same-length-5 : tie.Need-same-length-5
 same-length-5 c = search needs
@@ -38,7 +47,11 @@ same-length-6 : tie.Need-same-length-6
 same-length-6 c = search needs
 
 returns-2 : tie.Need-returns-2
-returns-2 c = walk-refuses (c .before .before .before .before .before .before .before .before .before .before .before .pre) (c .before .before .before .before .before .before .walk-closed .ensures) _ (c .before .why .given .1)
+returns-2 c =
+    let why : tie.After-why = search in
+    let walk : tie.After-walk-closed = search in
+    let s : tie.Start = search in
+    walk-refuses (s .pre) (walk .walk-closed .ensures) _ (why .why .given .1)
 
 pub clip-path-spec : {M : Type 1} → statement M
 clip-path-spec =

@@ -16,19 +16,19 @@ cw-is-toward-larger-requires c κs = search needs
 
 returns : tie.Need-returns
 returns c =
-    let s = c .before .before .before .before .before in
-    let prev-of = c .before .before .before .prev-of in
-    let prev-of2 = c .before .before .prev-of2 in
-    let cw-is-toward-larger = c .before .cw-is-toward-larger in
-    four-larger (s .args .idx) (arena-at (s .args .work .now) (s .args .s)) (s .args .root1) (s .args .root2) (prev-of .result) (prev-of2 .result) (prev-of .ensures) (prev-of2 .ensures) (cw-is-toward-larger .result) (cw-is-toward-larger .ensures) (s .pre .1) (s .pre .2) (rw (prev-of .ensures) (s .pre .0 .valid .prev-in _ (s .pre .1))) (rw (prev-of2 .ensures) (s .pre .0 .valid .prev-in _ (s .pre .2))) (c .if1 .taken)
+    let cw : tie.After-cw-is-toward-larger = search in
+    let p2 : tie.After-prev-of2 = search in
+    let p : tie.After-prev-of = search in
+    let s : tie.Start = search in
+    four-larger (s .args .idx) (arena-at (s .args .work .now) (s .args .s)) (s .args .root1) (s .args .root2) (p .prev-of .result) (p2 .prev-of2 .result) (p .prev-of .ensures) (p2 .prev-of2 .ensures) (cw .cw-is-toward-larger .result) (cw .cw-is-toward-larger .ensures) (s .pre .1) (s .pre .2) (rw (p .prev-of .ensures) (s .pre .0 .valid .prev-in _ (s .pre .1))) (rw (p2 .prev-of2 .ensures) (s .pre .0 .valid .prev-in _ (s .pre .2))) (c .if1 .taken)
 
 returns-2 : tie.Need-returns-2
 returns-2 c =
-    let s = c .before .before .before .before .before in
-    let prev-of = c .before .before .before .prev-of in
-    let prev-of2 = c .before .before .prev-of2 in
-    let cw-is-toward-larger = c .before .cw-is-toward-larger in
-    four-smaller (s .args .idx) (arena-at (s .args .work .now) (s .args .s)) (s .args .root1) (s .args .root2) (prev-of .result) (prev-of2 .result) (prev-of .ensures) (prev-of2 .ensures) (cw-is-toward-larger .result) (cw-is-toward-larger .ensures) (s .pre .1) (s .pre .2) (rw (prev-of .ensures) (s .pre .0 .valid .prev-in _ (s .pre .1))) (rw (prev-of2 .ensures) (s .pre .0 .valid .prev-in _ (s .pre .2))) (c .if1 .left)
+    let cw : tie.After-cw-is-toward-larger = search in
+    let p2 : tie.After-prev-of2 = search in
+    let p : tie.After-prev-of = search in
+    let s : tie.Start = search in
+    four-smaller (s .args .idx) (arena-at (s .args .work .now) (s .args .s)) (s .args .root1) (s .args .root2) (p .prev-of .result) (p2 .prev-of2 .result) (p .prev-of .ensures) (p2 .prev-of2 .ensures) (cw .cw-is-toward-larger .result) (cw .cw-is-toward-larger .ensures) (s .pre .1) (s .pre .2) (rw (p .prev-of .ensures) (s .pre .0 .valid .prev-in _ (s .pre .1))) (rw (p2 .prev-of2 .ensures) (s .pre .0 .valid .prev-in _ (s .pre .2))) (c .if1 .left)
 
 pub four-of-spec : {M : Type 1} → statement M
 four-of-spec =

@@ -13,34 +13,35 @@ owner-of-requires-2 c κs = search needs
 
 set-result-requires : tie.Need-set-result-requires
 set-result-requires c κs =
-    let s = c .before .before .before .before .before .before in
-    let owner-of = c .before .before .before .owner-of in
-    (s .pre .0, rw (owner-of .ensures) (s .pre .0 .valid .owner-in _ (s .pre .1 .p2-in)), λ q. absurd (q refl))
+    let o : tie.After-owner-of = search in
+    let s : tie.Start = search in
+    (s .pre .0, rw (o .owner-of .ensures) (s .pre .0 .valid .owner-in _ (s .pre .1 .p2-in)), λ q. absurd (q refl))
 
 set-new-owner-requires : tie.Need-set-new-owner-requires
 set-new-owner-requires c κs =
-    let set-result = c .before .before .before .set-result in
-    let s = c .before .before .before .before .before .before .before .before .before .before in
-    let owner-of2 = c .before .before .before .before .before .owner-of2 in
-    (set-result .ensures .holds, s .pre .1 .p2-in, rw (owner-of2 .ensures) (s .pre .0 .valid .owner-in _ (s .pre .1 .p1-in)))
+    let set : tie.After-set-result = search in
+    let o2 : tie.After-owner-of2 = search in
+    let s : tie.Start = search in
+    (set .set-result .ensures .holds, s .pre .1 .p2-in, rw (o2 .owner-of2 .ensures) (s .pre .0 .valid .owner-in _ (s .pre .1 .p1-in)))
 
 relink-requires : tie.Need-relink-requires
 relink-requires c κs =
-    let set-new-owner = c .before .before .before .set-new-owner in
-    let s = c .before .before .before .before .before .before .before .before .before .before .before .before .before .before in
-    (set-new-owner .ensures .holds, s .pre .1)
+    let set : tie.After-set-new-owner = search in
+    let s : tie.Start = search in
+    (set .set-new-owner .ensures .holds, s .pre .1)
 
 same-length : tie.Need-same-length
 same-length c = search needs
 
 returns : tie.Need-returns
 returns c =
-    let s = c .before .before .before .before .before .before .before .before .before .before .before .before .before .before .before .before .before in
-    let owner-of = c .before .before .before .before .before .before .before .before .before .before .before .before .before .before .owner-of in
-    let owner-of2 = c .before .before .before .before .before .before .before .before .before .before .before .before .owner-of2 in
-    let set-result = c .before .before .before .before .before .before .before .before .before .before .set-result in
-    let set-new-owner = c .before .before .before .before .before .before .set-new-owner in
-    rings-joined (s .args .idx) (s .args .f) (owner-of .result) (owner-of2 .result) (owner-of .ensures) (owner-of2 .ensures) (set-result .ensures) (set-new-owner .ensures) (c .before .before .relink .ensures)
+    let r : tie.After-relink = search in
+    let set-new-owner : tie.After-set-new-owner = search in
+    let result : tie.After-set-result = search in
+    let o2 : tie.After-owner-of2 = search in
+    let o : tie.After-owner-of = search in
+    let s : tie.Start = search in
+    rings-joined (s .args .idx) (s .args .f) (o .owner-of .result) (o2 .owner-of2 .result) (o .owner-of .ensures) (o2 .owner-of2 .ensures) (result .set-result .ensures) (set-new-owner .set-new-owner .ensures) (r .relink .ensures)
 
 pub join-spec : {M : Type 1} → statement M
 join-spec =

@@ -24,22 +24,26 @@ has-horz-overlap-requires c κs = search needs
 
 returns : tie.Need-returns
 returns c =
-    let point-of = c .before .before .before .before .before .before .point-of in
-    let point-of2 = c .before .before .before .before .before .point-of2 in
-    let point-of3 = c .before .before .before .before .point-of3 in
-    let point-of4 = c .before .before .before .point-of4 in
-    c .has-horz-overlap .ensures ∙ rw (sym (c .before .before .is-horz .ensures) ∙ c .before .if1 .taken, point-of .ensures, point-of2 .ensures, point-of3 .ensures, point-of4 .ensures)
+    let then1 : tie.Then1 = search in
+    let i : tie.After-is-horz = search in
+    let p4 : tie.After-point-of4 = search in
+    let p3 : tie.After-point-of3 = search in
+    let p2 : tie.After-point-of2 = search in
+    let p : tie.After-point-of = search in
+    c .has-horz-overlap .ensures ∙ rw (sym (i .is-horz .ensures) ∙ then1 .if1 .taken, p .point-of .ensures, p2 .point-of2 .ensures, p3 .point-of3 .ensures, p4 .point-of4 .ensures)
 
 has-vert-overlap-requires : tie.Need-has-vert-overlap-requires
 has-vert-overlap-requires c κs = search needs
 
 returns-2 : tie.Need-returns-2
 returns-2 c =
-    let point-of = c .before .before .before .before .before .before .point-of in
-    let point-of2 = c .before .before .before .before .before .point-of2 in
-    let point-of3 = c .before .before .before .before .point-of3 in
-    let point-of4 = c .before .before .before .point-of4 in
-    c .has-vert-overlap .ensures ∙ rw (sym (c .before .before .is-horz .ensures) ∙ c .before .if1 .left, point-of .ensures, point-of2 .ensures, point-of3 .ensures, point-of4 .ensures)
+    let else1 : tie.Else1 = search in
+    let i : tie.After-is-horz = search in
+    let p4 : tie.After-point-of4 = search in
+    let p3 : tie.After-point-of3 = search in
+    let p2 : tie.After-point-of2 = search in
+    let p : tie.After-point-of = search in
+    c .has-vert-overlap .ensures ∙ rw (sym (i .is-horz .ensures) ∙ else1 .if1 .left, p .point-of .ensures, p2 .point-of2 .ensures, p3 .point-of3 .ensures, p4 .point-of4 .ensures)
 
 pub overlap-spec : {M : Type 1} → statement M
 overlap-spec =

@@ -12,9 +12,10 @@ same-length c = search needs
 
 returns : tie.Need-returns
 returns c =
-    let s = c .before .before .before .before .before .before in
-    let if1 = c .before .before .before .before .if1 in
-    groups-joined (s .args .idx) (s .args .f) (s .args .rejoining) (if1 .taken) (c .before .before .join .ensures)
+    let j : tie.After-join = search in
+    let then1 : tie.Then1 = search in
+    let s : tie.Start = search in
+    groups-joined (s .args .idx) (s .args .f) (s .args .rejoining) (then1 .if1 .taken) (j .join .ensures)
 
 split-requires : tie.Need-split-requires
 split-requires c κs = search needs
@@ -24,9 +25,10 @@ same-length-2 c = search needs
 
 returns-2 : tie.Need-returns-2
 returns-2 c =
-    let s = c .before .before .before .before .before .before in
-    let if1 = c .before .before .before .before .if1 in
-    groups-split (s .args .idx) (s .args .f) (s .args .rejoining) (if1 .left) (c .before .before .split .ensures)
+    let split : tie.After-split = search in
+    let else1 : tie.Else1 = search in
+    let s : tie.Start = search in
+    groups-split (s .args .idx) (s .args .f) (s .args .rejoining) (else1 .if1 .left) (split .split .ensures)
 
 pub regroup-spec : {M : Type 1} → statement M
 regroup-spec =

@@ -12,27 +12,28 @@ owner-of-requires-2 c κs = search needs
 
 set-result-requires : tie.Need-set-result-requires
 set-result-requires c κs =
-    let s = c .before .before .before .before .before .before in
-    let owner-of = c .before .before .before .owner-of in
-    (s .pre .0, rw (owner-of .ensures) (s .pre .0 .valid .owner-in _ (s .pre .1)), λ _. s .pre .1)
+    let o : tie.After-owner-of = search in
+    let s : tie.Start = search in
+    (s .pre .0, rw (o .owner-of .ensures) (s .pre .0 .valid .owner-in _ (s .pre .1)), λ _. s .pre .1)
 
 set-result-requires-2 : tie.Need-set-result-requires-2
 set-result-requires-2 c κs =
-    let set-result = c .before .before .before .set-result in
-    let owner-of2 = c .before .before .before .before .before .owner-of2 in
-    let s = c .before .before .before .before .before .before .before .before .before .before in
-    (set-result .ensures .holds, rw (owner-of2 .ensures) (s .pre .0 .valid .owner-in _ (s .pre .2)), λ _. s .pre .2)
+    let set : tie.After-set-result = search in
+    let o2 : tie.After-owner-of2 = search in
+    let s : tie.Start = search in
+    (set .set-result .ensures .holds, rw (o2 .owner-of2 .ensures) (s .pre .0 .valid .owner-in _ (s .pre .2)), λ _. s .pre .2)
 
 same-length : tie.Need-same-length
 same-length c = search needs
 
 returns : tie.Need-returns
 returns c =
-    let s = c .before .before .before .before .before .before .before .before .before .before .before .before .before in
-    let owner-of = c .before .before .before .before .before .before .before .before .before .before .owner-of in
-    let owner-of2 = c .before .before .before .before .before .before .before .before .owner-of2 in
-    let set-result = c .before .before .before .before .before .before .set-result in
-    roots-set (s .args .op) (s .args .op2) (owner-of .result) (owner-of2 .result) (owner-of .ensures) (owner-of2 .ensures) (set-result .ensures) (c .before .before .set-result2 .ensures)
+    let set2 : tie.After-set-result2 = search in
+    let set : tie.After-set-result = search in
+    let o2 : tie.After-owner-of2 = search in
+    let o : tie.After-owner-of = search in
+    let s : tie.Start = search in
+    roots-set (s .args .op) (s .args .op2) (o .owner-of .result) (o2 .owner-of2 .result) (o .owner-of .ensures) (o2 .owner-of2 .ensures) (set .set-result .ensures) (set2 .set-result2 .ensures)
 
 pub set-roots-spec : {M : Type 1} → statement M
 set-roots-spec =

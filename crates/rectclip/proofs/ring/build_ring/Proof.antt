@@ -7,33 +7,35 @@ use Rattle.rectclip.proofs.ring.build_ring.Tie as tie
 
 returns : tie.Need-returns
 returns c =
-    let s = c .before .before in
+    let s : tie.Start = search in
     rw (c .if1 .taken) (built-none (s .args .slots) (s .pre .0))
 
 link-nodes-requires : tie.Need-link-nodes-requires
 link-nodes-requires c κs =
-    let s = c .before .before .before in
-    (record { cells = omega (arith, s .pre .0 .cells, s .pre .1); small = omega (arith, s .pre .0 .small, s .pre .1) }, omega (arith, c .before .if1 .left))
+    let else1 : tie.Else1 = search in
+    let s : tie.Start = search in
+    (record { cells = omega (arith, s .pre .0 .cells, s .pre .1); small = omega (arith, s .pre .0 .small, s .pre .1) }, omega (arith, else1 .if1 .left))
 
 sub-store : tie.Need-sub-store
 sub-store c = search needs
 
 store-requires : tie.Need-store-requires
 store-requires c κs =
-    let s = c .before .before .before .before .before .before .before in
-    let if1 = c .before .before .before .before .before .if1 in
-    let link-nodes = c .before .before .before .link-nodes in
-    (omega (arith, s .pre .0 .cells, s .pre .1, if1 .left, link-nodes .ensures .same), omega (arith, s .pre .0 .small, s .pre .1))
+    let l : tie.After-link-nodes = search in
+    let else1 : tie.Else1 = search in
+    let s : tie.Start = search in
+    (omega (arith, s .pre .0 .cells, s .pre .1, else1 .if1 .left, l .link-nodes .ensures .same), omega (arith, s .pre .0 .small, s .pre .1))
 
 same-length : tie.Need-same-length
 same-length c = search needs
 
 returns-2 : tie.Need-returns-2
 returns-2 c =
-    let s = c .before .before .before .before .before .before .before .before .before .before in
-    let if1 = c .before .before .before .before .before .before .before .before .if1 in
-    let link-nodes = c .before .before .before .before .before .before .link-nodes in
-    rw (c .before .before .store .ensures) (built (s .args .slots) (s .pre .0) (s .args .n) (s .pre .1) (if1 .left) (link-nodes .ensures))
+    let store : tie.After-store = search in
+    let l : tie.After-link-nodes = search in
+    let else1 : tie.Else1 = search in
+    let s : tie.Start = search in
+    rw (store .store .ensures) (built (s .args .slots) (s .pre .0) (s .args .n) (s .pre .1) (else1 .if1 .left) (l .link-nodes .ensures))
 
 pub build-ring-spec : {M : Type 1} → statement M
 build-ring-spec =

@@ -24,28 +24,29 @@ after-requires c κs = c .before .loop-test .taken
 
 put-node-requires : tie.Need-put-node-requires Inv-loop μ-loop
 put-node-requires c κs =
-    let t = c .before .before .loop-test in
-    let h = c .before .before .before .loop in
-    let s = c .before .before .before .before .before in
-    (omega (arith, t .taken, h .inv .same, s .pre .0 .cells), omega (arith, c .after .ensures, after-in (s .args .n) (h .i) (t .taken), s .pre .0 .small), omega (arith, h .inv .prev-in, s .pre .0 .small))
+    let t : tie.In-loop Inv-loop μ-loop = search in
+    let h : tie.At-loop Inv-loop μ-loop = search in
+    let s : tie.Start Inv-loop μ-loop = search in
+    (omega (arith, t .loop-test .taken, h .loop .inv .same, s .pre .0 .cells), omega (arith, c .after .ensures, after-in (s .args .n) (h .loop .i) (t .loop-test .taken), s .pre .0 .small), omega (arith, h .loop .inv .prev-in, s .pre .0 .small))
 
 add-i : tie.Need-add-i Inv-loop μ-loop
 add-i c =
-    let t = c .before .before .before .before .before .loop-test in
-    let s = c .before .before .before .before .before .before .before .before in
-    omega (arith, t .taken, s .pre .0 .small)
+    let t : tie.In-loop Inv-loop μ-loop = search in
+    let s : tie.Start Inv-loop μ-loop = search in
+    omega (arith, t .loop-test .taken, s .pre .0 .small)
 
 loop-less : tie.Need-loop-less Inv-loop μ-loop
 loop-less c =
-    let t = c .before .before .before .before .before .loop-test in
-    omega (arith, t .taken)
+    let t : tie.In-loop Inv-loop μ-loop = search in
+    omega (arith, t .loop-test .taken)
 
 loop-again : tie.Need-loop-again Inv-loop μ-loop
 loop-again c =
-    let h = c .before .before .before .before .before .before .loop in
-    let t = c .before .before .before .before .before .loop-test in
-    let after = c .before .before .before .after in
-    linking-again (h .inv) (t .taken) (after .result) (after .ensures) (c .before .before .put-node .ensures)
+    let p : tie.After-put-node Inv-loop μ-loop = search in
+    let a : tie.After-after Inv-loop μ-loop = search in
+    let t : tie.In-loop Inv-loop μ-loop = search in
+    let h : tie.At-loop Inv-loop μ-loop = search in
+    linking-again (h .loop .inv) (t .loop-test .taken) (a .after .result) (a .after .ensures) (p .put-node .ensures)
 
 same-length : tie.Need-same-length Inv-loop μ-loop
 same-length c = c .before .loop .inv .same

@@ -21,11 +21,12 @@ same-length c = search needs
 
 returns : tie.Need-returns
 returns c =
-    let store3 = c .before .before .before .before .before .before .store3 in
-    let store2 = c .before .before .before .before .before .before .before .before .before .before .store2 in
-    let store = c .before .before .before .before .before .before .before .before .before .before .before .before .before .before .store in
-    let s = c .before .before .before .before .before .before .before .before .before .before .before .before .before .before .before .before .before in
-    rw (c .before .before .store4 .ensures, store3 .ensures, store2 .ensures, store .ensures) (placed-node (s .args .work .now) (s .args .i) (s .args .next) (s .args .prev) (s .pre .0))
+    let store4 : tie.After-store4 = search in
+    let store3 : tie.After-store3 = search in
+    let store2 : tie.After-store2 = search in
+    let store : tie.After-store = search in
+    let s : tie.Start = search in
+    rw (store4 .store4 .ensures, store3 .store3 .ensures, store2 .store2 .ensures, store .store .ensures) (placed-node (s .args .work .now) (s .args .i) (s .args .next) (s .args .prev) (s .pre .0))
 
 pub put-node-spec : {M : Type 1} → statement M
 put-node-spec =

@@ -69,25 +69,24 @@ made-is a b c d x y bx by cx cy ex ey h1 h2 h3 h4 h5 h6 h7 h8 = λ i. made (h1 i
 
 returns : tie.Need-returns
 returns c =
-    let c7 = c .before .before in
-    let c6 = c7 .before .before in
-    let c5 = c6 .before .before in
-    let c4 = c5 .before .before in
-    let c3 = c4 .before .before in
-    let c2 = c3 .before .before in
-    let c1 = c2 .before .before in
-    let p = c1 .before .before .args in
-    let q = c1 .before .before .pre in
-    made-is (p .a) (p .b) (p .c) (p .d) (c1 .to-float .result) (c2 .to-float2 .result) (c3 .to-float3 .result) (c4 .to-float4 .result)
-    (c5 .to-float5 .result) (c6 .to-float6 .result) (c7 .to-float7 .result) (c .to-float8 .result)
-    (c1 .to-float .ensures ∙ ap float (read-back (p .a .x) (q .start .across)))
-    (c2 .to-float2 .ensures ∙ ap float (read-back (p .a .y) (q .start .down)))
-    (c3 .to-float3 .ensures ∙ ap float (read-back (p .b .x) (q .end .across)))
-    (c4 .to-float4 .ensures ∙ ap float (read-back (p .b .y) (q .end .down)))
-    (c5 .to-float5 .ensures ∙ ap float (read-back (p .c .x) (q .edge .across)))
-    (c6 .to-float6 .ensures ∙ ap float (read-back (p .c .y) (q .edge .down)))
-    (c7 .to-float7 .ensures ∙ ap float (read-back (p .d .x) (q .far .across)))
-    (c .to-float8 .ensures ∙ ap float (read-back (p .d .y) (q .far .down)))
+    let t7 : tie.After-to-float7 = search in
+    let t6 : tie.After-to-float6 = search in
+    let t5 : tie.After-to-float5 = search in
+    let t4 : tie.After-to-float4 = search in
+    let t3 : tie.After-to-float3 = search in
+    let t2 : tie.After-to-float2 = search in
+    let t : tie.After-to-float = search in
+    let s : tie.Start = search in
+    made-is (s .args .a) (s .args .b) (s .args .c) (s .args .d) (t .to-float .result) (t2 .to-float2 .result) (t3 .to-float3 .result) (t4 .to-float4 .result)
+    (t5 .to-float5 .result) (t6 .to-float6 .result) (t7 .to-float7 .result) (c .to-float8 .result)
+    (t .to-float .ensures ∙ ap float (read-back (s .args .a .x) (s .pre .start .across)))
+    (t2 .to-float2 .ensures ∙ ap float (read-back (s .args .a .y) (s .pre .start .down)))
+    (t3 .to-float3 .ensures ∙ ap float (read-back (s .args .b .x) (s .pre .end .across)))
+    (t4 .to-float4 .ensures ∙ ap float (read-back (s .args .b .y) (s .pre .end .down)))
+    (t5 .to-float5 .ensures ∙ ap float (read-back (s .args .c .x) (s .pre .edge .across)))
+    (t6 .to-float6 .ensures ∙ ap float (read-back (s .args .c .y) (s .pre .edge .down)))
+    (t7 .to-float7 .ensures ∙ ap float (read-back (s .args .d .x) (s .pre .far .across)))
+    (c .to-float8 .ensures ∙ ap float (read-back (s .args .d .y) (s .pre .far .down)))
 
 pub measured-spec : {M : Type 1} → statement M
 measured-spec =

@@ -30,8 +30,8 @@ both p q = λ i. record { x = p i; y = q i }
 returns : tie.Need-returns
 unfolding pointAt
 returns c =
-    let first = c .before .before .before in
-    both (read-back (first .to-whole .result) _ (first .to-whole .ensures)) (read-back (c .to-whole2 .result) _ (c .to-whole2 .ensures))
+    let t : tie.After-to-whole = search in
+    both (read-back (t .to-whole .result) _ (t .to-whole .ensures)) (read-back (c .to-whole2 .result) _ (c .to-whole2 .ensures))
 
 pub point-at-spec : {M : Type 1} → statement M
 point-at-spec = tie.close (tie.spec to-whole-requires to-whole-requires-2 returns)

@@ -9,7 +9,7 @@ prev-of-requires c κs = search needs
 
 point-of-requires : tie.Need-point-of-requires
 point-of-requires c κs =
-    let s = c .before .before in
+    let s : tie.Start = search in
     (s .pre .drawn, rw (c .prev-of .ensures) (s .pre .holds .valid .prev-in _ (s .pre .op-in)))
 
 point-of-requires-2 : tie.Need-point-of-requires-2
@@ -23,20 +23,24 @@ is-left-of-requires c κs = search needs
 
 returns : tie.Need-returns
 returns c =
-    let point-of = c .before .before .before .before .point-of in
-    let point-of2 = c .before .before .before .point-of2 in
-    let prev-of = c .before .before .before .before .before .prev-of in
-    c .is-left-of .ensures ∙ rw (sym (c .before .before .is-horz .ensures) ∙ c .before .if1 .taken, point-of .ensures, point-of2 .ensures, prev-of .ensures)
+    let then1 : tie.Then1 = search in
+    let i : tie.After-is-horz = search in
+    let point2 : tie.After-point-of2 = search in
+    let point : tie.After-point-of = search in
+    let prev : tie.After-prev-of = search in
+    c .is-left-of .ensures ∙ rw (sym (i .is-horz .ensures) ∙ then1 .if1 .taken, point .point-of .ensures, point2 .point-of2 .ensures, prev .prev-of .ensures)
 
 is-above-requires : tie.Need-is-above-requires
 is-above-requires c κs = search needs
 
 returns-2 : tie.Need-returns-2
 returns-2 c =
-    let point-of = c .before .before .before .before .point-of in
-    let point-of2 = c .before .before .before .point-of2 in
-    let prev-of = c .before .before .before .before .before .prev-of in
-    c .is-above .ensures ∙ rw (sym (c .before .before .is-horz .ensures) ∙ c .before .if1 .left, point-of .ensures, point-of2 .ensures, prev-of .ensures)
+    let else1 : tie.Else1 = search in
+    let i : tie.After-is-horz = search in
+    let point2 : tie.After-point-of2 = search in
+    let point : tie.After-point-of = search in
+    let prev : tie.After-prev-of = search in
+    c .is-above .ensures ∙ rw (sym (i .is-horz .ensures) ∙ else1 .if1 .left, point .point-of .ensures, point2 .point-of2 .ensures, prev .prev-of .ensures)
 
 pub is-larger-spec : {M : Type 1} → statement M
 is-larger-spec =

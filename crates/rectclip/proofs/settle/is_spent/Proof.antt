@@ -15,7 +15,7 @@ prev-of-requires c κs = search needs
 
 point-of-requires : tie.Need-point-of-requires
 point-of-requires c κs =
-    let s = c .before .before .before .before in
+    let s : tie.Start = search in
     (s .pre .drawn, rw (c .prev-of .ensures) (s .pre .holds .valid .prev-in _ (s .pre .op-in)))
 
 point-of-requires-2 : tie.Need-point-of-requires-2
@@ -26,10 +26,12 @@ equals-requires c κs = search needs
 
 returns-2 : tie.Need-returns-2
 returns-2 c =
-    let is-stub = c .before .before .before .before .before .is-stub in
-    let if1 = c .before .before .before .before .if1 in
-    let prev-of = c .before .before .before .prev-of in
-    c .equals .ensures ∙ rw (sym (is-stub .ensures) ∙ if1 .left, c .before .before .point-of .ensures, c .before .point-of2 .ensures, prev-of .ensures)
+    let point2 : tie.After-point-of2 = search in
+    let point : tie.After-point-of = search in
+    let prev : tie.After-prev-of = search in
+    let else1 : tie.Else1 = search in
+    let i : tie.After-is-stub = search in
+    c .equals .ensures ∙ rw (sym (i .is-stub .ensures) ∙ else1 .if1 .left, point .point-of .ensures, point2 .point-of2 .ensures, prev .prev-of .ensures)
 
 pub is-spent-spec : {M : Type 1} → statement M
 is-spent-spec =

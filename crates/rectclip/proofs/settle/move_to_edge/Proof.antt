@@ -9,18 +9,19 @@ uncouple-edge-requires c κs = search needs
 
 add-to-edge-requires : tie.Need-add-to-edge-requires
 add-to-edge-requires c κs =
-    let uncouple-edge = c .before .before .before .uncouple-edge in
-    let s = c .before .before .before .before .before .before in
-    record { holds = uncouple-edge .ensures .holds; list-in = s .pre .1; op-in = s .pre .2; room = λ _. s .pre .3 }
+    let u : tie.After-uncouple-edge = search in
+    let s : tie.Start = search in
+    record { holds = u .uncouple-edge .ensures .holds; list-in = s .pre .1; op-in = s .pre .2; room = λ _. s .pre .3 }
 
 same-length : tie.Need-same-length
 same-length c = search needs
 
 returns : tie.Need-returns
 returns c =
-    let s = c .before .before .before .before .before .before .before .before .before in
-    let uncouple-edge = c .before .before .before .before .before .before .uncouple-edge in
-    moved (s .args .e) (s .args .op) (s .pre .0) (s .pre .1) (s .pre .2) (uncouple-edge .ensures) (c .before .before .add-to-edge .ensures)
+    let a : tie.After-add-to-edge = search in
+    let u : tie.After-uncouple-edge = search in
+    let s : tie.Start = search in
+    moved (s .args .e) (s .args .op) (s .pre .0) (s .pre .1) (s .pre .2) (u .uncouple-edge .ensures) (a .add-to-edge .ensures)
 
 pub move-to-edge-spec : {M : Type 1} → statement M
 move-to-edge-spec =

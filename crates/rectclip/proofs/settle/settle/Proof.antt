@@ -11,7 +11,7 @@ is-spent-requires c κs = looking (c .before .before .pre)
 
 keep-one-requires : tie.Need-keep-one-requires
 keep-one-requires c κs =
-    let s = c .before .before .before .before .before in
+    let s : tie.Start = search in
     settling-two (s .pre)
 
 same-length : tie.Need-same-length
@@ -19,20 +19,20 @@ same-length c = search needs
 
 returns : tie.Need-returns
 returns c =
-    let s = c .before .before .before .before .before .before .before .before in
-    let keep-one = c .before .before .keep-one in
-    let is-spent = c .before .before .before .before .before .is-spent in
-    let if1 = c .before .before .before .before .if1 in
-    settled-first (points-in (s .args .store .now) (s .args .s .nodes)) (s .args .idx) (s .args .i) (s .args .j) (s .args .op) (s .args .op2) (keep-one .result) (sym (is-spent .ensures) ∙ if1 .taken) (keep-one .ensures)
+    let k : tie.After-keep-one = search in
+    let then1 : tie.Then1 = search in
+    let i : tie.After-is-spent = search in
+    let s : tie.Start = search in
+    settled-first (points-in (s .args .store .now) (s .args .s .nodes)) (s .args .idx) (s .args .i) (s .args .j) (s .args .op) (s .args .op2) (k .keep-one .result) (sym (i .is-spent .ensures) ∙ then1 .if1 .taken) (k .keep-one .ensures)
 
 is-spent-requires-2 : tie.Need-is-spent-requires-2
 is-spent-requires-2 c κs =
-    let s = c .before .before .before .before .before in
+    let s : tie.Start = search in
     looking2 (s .pre)
 
 keep-one-requires-2 : tie.Need-keep-one-requires-2
 keep-one-requires-2 c κs =
-    let s = c .before .before .before .before .before .before .before .before in
+    let s : tie.Start = search in
     settling-one (s .pre)
 
 same-length-2 : tie.Need-same-length-2
@@ -40,27 +40,27 @@ same-length-2 c = search needs
 
 returns-2 : tie.Need-returns-2
 returns-2 c =
-    let s = c .before .before .before .before .before .before .before .before .before .before .before in
-    let keep-one2 = c .before .before .keep-one2 in
-    let is-spent = c .before .before .before .before .before .before .before .before .is-spent in
-    let if1 = c .before .before .before .before .before .before .before .if1 in
-    let is-spent2 = c .before .before .before .before .before .is-spent2 in
-    let if2 = c .before .before .before .before .if2 in
-    settled-second (points-in (s .args .store .now) (s .args .s .nodes)) (s .args .idx) (s .args .i) (s .args .j) (s .args .op) (s .args .op2) (keep-one2 .result) (sym (is-spent .ensures) ∙ if1 .left) (sym (is-spent2 .ensures) ∙ if2 .taken) (keep-one2 .ensures)
+    let k2 : tie.After-keep-one2 = search in
+    let then2 : tie.Then2 = search in
+    let i2 : tie.After-is-spent2 = search in
+    let else1 : tie.Else1 = search in
+    let i : tie.After-is-spent = search in
+    let s : tie.Start = search in
+    settled-second (points-in (s .args .store .now) (s .args .s .nodes)) (s .args .idx) (s .args .i) (s .args .j) (s .args .op) (s .args .op2) (k2 .keep-one2 .result) (sym (i .is-spent .ensures) ∙ else1 .if1 .left) (sym (i2 .is-spent2 .ensures) ∙ then2 .if2 .taken) (k2 .keep-one2 .ensures)
 
 is-larger-requires : tie.Need-is-larger-requires
 is-larger-requires c κs =
-    let s = c .before .before .before .before .before .before .before .before in
+    let s : tie.Start = search in
     looking (s .pre)
 
 is-larger-requires-2 : tie.Need-is-larger-requires-2
 is-larger-requires-2 c κs =
-    let s = c .before .before .before .before .before .before .before .before .before .before in
+    let s : tie.Start = search in
     looking2 (s .pre)
 
 keep-both-requires : tie.Need-keep-both-requires
 keep-both-requires c κs =
-    let s = c .before .before .before .before .before .before .before .before .before .before .before .before .before in
+    let s : tie.Start = search in
     s .pre
 
 same-length-3 : tie.Need-same-length-3
@@ -68,20 +68,20 @@ same-length-3 c = search needs
 
 returns-3 : tie.Need-returns-3
 returns-3 c =
-    let s = c .before .before .before .before .before .before .before .before .before .before .before .before .before .before .before .before in
-    let keep-both = c .before .before .keep-both in
-    let is-spent = c .before .before .before .before .before .before .before .before .before .before .before .before .before .is-spent in
-    let if1 = c .before .before .before .before .before .before .before .before .before .before .before .before .if1 in
-    let is-spent2 = c .before .before .before .before .before .before .before .before .before .before .is-spent2 in
-    let if2 = c .before .before .before .before .before .before .before .before .before .if2 in
-    let is-larger = c .before .before .before .before .before .before .before .is-larger in
-    let is-larger2 = c .before .before .before .before .before .is-larger2 in
-    let if3 = c .before .before .before .before .if3 in
-    settled-both (points-in (s .args .store .now) (s .args .s .nodes)) (s .args .idx) (s .args .i) (s .args .j) (s .args .op) (s .args .op2) (keep-both .result) (sym (is-spent .ensures) ∙ if1 .left) (sym (is-spent2 .ensures) ∙ if2 .left) (is-larger .result) (is-larger2 .result) (is-larger .ensures) (is-larger2 .ensures) (if3 .taken) (keep-both .ensures)
+    let k : tie.After-keep-both = search in
+    let then3 : tie.Then3 = search in
+    let larger2 : tie.After-is-larger2 = search in
+    let larger : tie.After-is-larger = search in
+    let else2 : tie.Else2 = search in
+    let spent2 : tie.After-is-spent2 = search in
+    let else1 : tie.Else1 = search in
+    let spent : tie.After-is-spent = search in
+    let s : tie.Start = search in
+    settled-both (points-in (s .args .store .now) (s .args .s .nodes)) (s .args .idx) (s .args .i) (s .args .j) (s .args .op) (s .args .op2) (k .keep-both .result) (sym (spent .is-spent .ensures) ∙ else1 .if1 .left) (sym (spent2 .is-spent2 .ensures) ∙ else2 .if2 .left) (larger .is-larger .result) (larger2 .is-larger2 .result) (larger .is-larger .ensures) (larger2 .is-larger2 .ensures) (then3 .if3 .taken) (k .keep-both .ensures)
 
 keep-each-requires : tie.Need-keep-each-requires
 keep-each-requires c κs =
-    let s = c .before .before .before .before .before .before .before .before .before .before .before .before .before in
+    let s : tie.Start = search in
     s .pre
 
 same-length-4 : tie.Need-same-length-4
@@ -89,16 +89,16 @@ same-length-4 c = search needs
 
 returns-4 : tie.Need-returns-4
 returns-4 c =
-    let s = c .before .before .before .before .before .before .before .before .before .before .before .before .before .before .before .before in
-    let keep-each = c .before .before .keep-each in
-    let is-spent = c .before .before .before .before .before .before .before .before .before .before .before .before .before .is-spent in
-    let if1 = c .before .before .before .before .before .before .before .before .before .before .before .before .if1 in
-    let is-spent2 = c .before .before .before .before .before .before .before .before .before .before .is-spent2 in
-    let if2 = c .before .before .before .before .before .before .before .before .before .if2 in
-    let is-larger = c .before .before .before .before .before .before .before .is-larger in
-    let is-larger2 = c .before .before .before .before .before .is-larger2 in
-    let if3 = c .before .before .before .before .if3 in
-    settled-each (points-in (s .args .store .now) (s .args .s .nodes)) (s .args .idx) (s .args .i) (s .args .j) (s .args .op) (s .args .op2) (keep-each .result) (sym (is-spent .ensures) ∙ if1 .left) (sym (is-spent2 .ensures) ∙ if2 .left) (is-larger .result) (is-larger2 .result) (is-larger .ensures) (is-larger2 .ensures) (if3 .left) (keep-each .ensures)
+    let k : tie.After-keep-each = search in
+    let else3 : tie.Else3 = search in
+    let larger2 : tie.After-is-larger2 = search in
+    let larger : tie.After-is-larger = search in
+    let else2 : tie.Else2 = search in
+    let spent2 : tie.After-is-spent2 = search in
+    let else1 : tie.Else1 = search in
+    let spent : tie.After-is-spent = search in
+    let s : tie.Start = search in
+    settled-each (points-in (s .args .store .now) (s .args .s .nodes)) (s .args .idx) (s .args .i) (s .args .j) (s .args .op) (s .args .op2) (k .keep-each .result) (sym (spent .is-spent .ensures) ∙ else1 .if1 .left) (sym (spent2 .is-spent2 .ensures) ∙ else2 .if2 .left) (larger .is-larger .result) (larger2 .is-larger2 .result) (larger .is-larger .ensures) (larger2 .is-larger2 .ensures) (else3 .if3 .left) (k .keep-each .ensures)
 
 pub settle-spec : {M : Type 1} → statement M
 settle-spec =

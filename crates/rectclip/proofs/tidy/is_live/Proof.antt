@@ -10,13 +10,14 @@ returns c = rw (eq-eqb (c .before .before .args .x) none (c .if1 .taken)) refl
 
 is-stub-requires : tie.Need-is-stub-requires
 is-stub-requires c κs =
-    let s = c .before .before in
+    let s : tie.Start = search in
     (s .pre .0, s .pre .1 (c .if1 .left))
 
 returns-2 : tie.Need-returns-2
 returns-2 c =
-    let s = c .before .before .before in
-    rw (ne-eqb (s .args .x) none (c .before .if1 .left), c .is-stub .ensures) refl
+    let else1 : tie.Else1 = search in
+    let s : tie.Start = search in
+    rw (ne-eqb (s .args .x) none (else1 .if1 .left), c .is-stub .ensures) refl
 
 pub is-live-spec : {M : Type 1} → statement M
 is-live-spec = tie.close (tie.spec returns is-stub-requires returns-2)

@@ -20,36 +20,37 @@ loop-holds c = tidying-start (c .before .pre)
 
 is-left-requires : tie.Need-is-left-requires Inv-loop μ-loop
 is-left-requires c κs =
-    let s = c .before .before .before .before in
-    (c .before .before .loop .inv .so-far .holds .eight, s .pre .side-in)
+    let h : tie.At-loop Inv-loop μ-loop = search in
+    let s : tie.Start Inv-loop μ-loop = search in
+    (h .loop .inv .so-far .holds .eight, s .pre .side-in)
 
 same-length : tie.Need-same-length Inv-loop μ-loop
 same-length c =
-    let h = c .before .before .before .before .loop in
-    h .inv .so-far .same
+    let h : tie.At-loop Inv-loop μ-loop = search in
+    h .loop .inv .so-far .same
 
 returns : tie.Need-returns Inv-loop μ-loop
 returns c =
-    let h = c .before .before .before .before .loop in
-    let s = c .before .before .before .before .before .before in
-    let is-left = c .before .is-left in
-    tidying-stop (h .inv) (s .pre) (is-left .result) (is-left .ensures) (not-true (is-left .result) (c .if1 .taken))
+    let i : tie.After-is-left Inv-loop μ-loop = search in
+    let h : tie.At-loop Inv-loop μ-loop = search in
+    let s : tie.Start Inv-loop μ-loop = search in
+    tidying-stop (h .loop .inv) (s .pre) (i .is-left .result) (i .is-left .ensures) (not-true (i .is-left .result) (c .if1 .taken))
 
 one-turn-requires : tie.Need-one-turn-requires Inv-loop μ-loop
 one-turn-requires c κs =
-    let h = c .before .before .before .before .before .loop in
-    let s = c .before .before .before .before .before .before .before in
-    let is-left = c .before .before .is-left in
-    let t = c .before .before .before .before .loop-test in
-    let if1 = c .before .if1 in
-    (tidying-may (h .inv) (s .pre) (is-left .result) (is-left .ensures) (t .taken) (not-false (is-left .result) (if1 .left)), tidying-in (h .inv) (s .pre) (is-left .result) (is-left .ensures) (t .taken) (not-false (is-left .result) (if1 .left)))
+    let else1 : tie.Else1 Inv-loop μ-loop = search in
+    let i : tie.After-is-left Inv-loop μ-loop = search in
+    let t : tie.In-loop Inv-loop μ-loop = search in
+    let h : tie.At-loop Inv-loop μ-loop = search in
+    let s : tie.Start Inv-loop μ-loop = search in
+    (tidying-may (h .loop .inv) (s .pre) (i .is-left .result) (i .is-left .ensures) (t .loop-test .taken) (not-false (i .is-left .result) (else1 .if1 .left)), tidying-in (h .loop .inv) (s .pre) (i .is-left .result) (i .is-left .ensures) (t .loop-test .taken) (not-false (i .is-left .result) (else1 .if1 .left)))
 
 add-taken : tie.Need-add-taken Inv-loop μ-loop
 add-taken c =
-    let h = c .before .before .before .before .before .before .before .before .loop in
-    let t = c .before .before .before .before .before .before .before .loop-test in
-    let s = c .before .before .before .before .before .before .before .before .before .before in
-    omega (arith, h .inv .sum, t .taken, s .fits .allowance)
+    let t : tie.In-loop Inv-loop μ-loop = search in
+    let h : tie.At-loop Inv-loop μ-loop = search in
+    let s : tie.Start Inv-loop μ-loop = search in
+    omega (arith, h .loop .inv .sum, t .loop-test .taken, s .fits .allowance)
 
 sub-left-2 : tie.Need-sub-left-2 Inv-loop μ-loop
 sub-left-2 c = search needs
@@ -59,30 +60,31 @@ loop-less c = search needs
 
 loop-again : tie.Need-loop-again Inv-loop μ-loop
 loop-again c =
-    let h = c .before .before .before .before .before .before .before .before .loop in
-    let s = c .before .before .before .before .before .before .before .before .before .before in
-    let is-left = c .before .before .before .before .before .is-left in
-    let t = c .before .before .before .before .before .before .before .loop-test in
-    let if1 = c .before .before .before .before .if1 in
-    let one-turn = c .before .before .one-turn in
-    tidying-again (h .inv) (s .pre) (is-left .result) (is-left .ensures) (t .taken) (not-false (is-left .result) (if1 .left)) (one-turn .result) (one-turn .ensures)
+    let o : tie.After-one-turn Inv-loop μ-loop = search in
+    let else1 : tie.Else1 Inv-loop μ-loop = search in
+    let i : tie.After-is-left Inv-loop μ-loop = search in
+    let t : tie.In-loop Inv-loop μ-loop = search in
+    let h : tie.At-loop Inv-loop μ-loop = search in
+    let s : tie.Start Inv-loop μ-loop = search in
+    tidying-again (h .loop .inv) (s .pre) (i .is-left .result) (i .is-left .ensures) (t .loop-test .taken) (not-false (i .is-left .result) (else1 .if1 .left)) (o .one-turn .result) (o .one-turn .ensures)
 
 is-left-requires-2 : tie.Need-is-left-requires-2 Inv-loop μ-loop
 is-left-requires-2 c κs =
-    let s = c .before .before .before .before in
-    (c .before .before .loop .inv .so-far .holds .eight, s .pre .side-in)
+    let h : tie.At-loop Inv-loop μ-loop = search in
+    let s : tie.Start Inv-loop μ-loop = search in
+    (h .loop .inv .so-far .holds .eight, s .pre .side-in)
 
 same-length-2 : tie.Need-same-length-2 Inv-loop μ-loop
 same-length-2 c =
-    let h = c .before .before .before .loop in
-    h .inv .so-far .same
+    let h : tie.At-loop Inv-loop μ-loop = search in
+    h .loop .inv .so-far .same
 
 returns-2 : tie.Need-returns-2 Inv-loop μ-loop
 returns-2 c =
-    let h = c .before .before .before .loop in
-    let s = c .before .before .before .before .before in
-    let is-left2 = c .is-left2 in
-    tidying-out (h .inv) (s .pre) (is-left2 .result) (is-left2 .ensures) (c .before .before .loop-test .left)
+    let l : tie.After-loop Inv-loop μ-loop = search in
+    let h : tie.At-loop Inv-loop μ-loop = search in
+    let s : tie.Start Inv-loop μ-loop = search in
+    tidying-out (h .loop .inv) (s .pre) (c .is-left2 .result) (c .is-left2 .ensures) (l .loop-test .left)
 
 pub take-turns-spec : {M : Type 1} → statement M
 take-turns-spec =

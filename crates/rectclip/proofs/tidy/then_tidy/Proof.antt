@@ -6,12 +6,12 @@ use Rattle.rectclip.proofs.tidy.then_tidy.Tie as tie
 
 returns : tie.Need-returns
 returns c =
-    let s = c .before .before in
+    let s : tie.Start = search in
     then-full (s .args .so-far) (s .pre) (c .if1 .taken)
 
 tidy-edges-requires : tie.Need-tidy-edges-requires
 tidy-edges-requires c κs =
-    let s = c .before .before .before .before in
+    let s : tie.Start = search in
     then-may (s .args .so-far) (s .pre)
 
 same-length : tie.Need-same-length
@@ -19,10 +19,10 @@ same-length c = search needs
 
 returns-2 : tie.Need-returns-2
 returns-2 c =
-    let s = c .before .before .before .before .before .before .before in
-    let if1 = c .before .before .before .before .before .if1 in
-    let tidy-edges = c .before .before .tidy-edges in
-    then-tidied (s .args .so-far) (s .pre) (if1 .left) (tidy-edges .result) (tidy-edges .ensures)
+    let t : tie.After-tidy-edges = search in
+    let else1 : tie.Else1 = search in
+    let s : tie.Start = search in
+    then-tidied (s .args .so-far) (s .pre) (else1 .if1 .left) (t .tidy-edges .result) (t .tidy-edges .ensures)
 
 pub then-tidy-spec : {M : Type 1} → statement M
 then-tidy-spec = tie.close (tie.spec returns tidy-edges-requires same-length returns-2)

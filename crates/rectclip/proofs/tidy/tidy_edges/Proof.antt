@@ -16,17 +16,17 @@ mul-if1 c = search needs
 
 array-read-if1 : tie.Need-array-read-if1
 array-read-if1 c =
-    let s = c .before .before in
+    let s : tie.Start = search in
     omega (arith, s .pre .holds .eight, s .pre .side-in)
 
 returns : tie.Need-returns
 returns c =
-    let s = c .before .before .before in
+    let s : tie.Start = search in
     tidy-none (s .pre) (c .if1 .taken)
 
 take-turns-requires : tie.Need-take-turns-requires
 take-turns-requires c κs =
-    let s = c .before .before .before .before in
+    let s : tie.Start = search in
     s .pre
 
 same-length : tie.Need-same-length
@@ -34,10 +34,10 @@ same-length c = search needs
 
 returns-2 : tie.Need-returns-2
 returns-2 c =
-    let s = c .before .before .before .before .before .before .before in
-    let if1 = c .before .before .before .before .if1 in
-    let take-turns = c .before .before .take-turns in
-    tidy-some (s .pre) (if1 .left) (take-turns .result) (take-turns .ensures)
+    let t : tie.After-take-turns = search in
+    let else1 : tie.Else1 = search in
+    let s : tie.Start = search in
+    tidy-some (s .pre) (else1 .if1 .left) (t .take-turns .result) (t .take-turns .ensures)
 
 pub tidy-edges-spec : {M : Type 1} → statement M
 tidy-edges-spec =

@@ -15,7 +15,10 @@ same-length-2 : tie.Need-same-length-2
 same-length-2 c = search needs
 
 returns : tie.Need-returns
-returns c = let s : tie.Start = search in rw (c .before .before .before .before .before .before .if1 .taken) (c .before .before .before .begin .ensures)
+returns c =
+    let b : tie.After-begin = search in
+    let then1 : tie.Then1 = search in
+    rw (then1 .if1 .taken) (b .begin .ensures)
 
 begin-requires-2 : tie.Need-begin-requires-2
 begin-requires-2 c κs = search needs
@@ -27,7 +30,12 @@ same-length-4 : tie.Need-same-length-4
 same-length-4 c = search needs
 
 returns-2 : tie.Need-returns-2
-returns-2 c = let s : tie.Start = search in rw (c .before .before .before .before .before .before .before .if1 .left) (first-is-new (s .pre) (c .before .before .before .before .before .before .if2 .taken) (c .before .before .before .begin2 .ensures))
+returns-2 c =
+    let b2 : tie.After-begin2 = search in
+    let then2 : tie.Then2 = search in
+    let else1 : tie.Else1 = search in
+    let s : tie.Start = search in
+    rw (else1 .if1 .left) (first-is-new (s .pre) (then2 .if2 .taken) (b2 .begin2 .ensures))
 
 sub-point-at : tie.Need-sub-point-at
 sub-point-at c = search needs
@@ -42,13 +50,26 @@ same-length-5 : tie.Need-same-length-5
 same-length-5 c = search needs
 
 returns-3 : tie.Need-returns-3
-returns-3 c = let s : tie.Start = search in rw (c .before .before .before .before .before .if1 .left) (same-skipped (s .pre) (pos-of (c .before .before .before .before .if2 .left)) (c .before .before .point-at .ensures) (sym (c .before .equals .ensures) ∙ c .if3 .taken))
+returns-3 c =
+    let e : tie.After-equals = search in
+    let p : tie.After-point-at = search in
+    let else2 : tie.Else2 = search in
+    let else1 : tie.Else1 = search in
+    let s : tie.Start = search in
+    rw (else1 .if1 .left) (same-skipped (s .pre) (pos-of (else2 .if2 .left)) (p .point-at .ensures) (sym (e .equals .ensures) ∙ c .if3 .taken))
 
 same-length-6 : tie.Need-same-length-6
 same-length-6 c = search needs
 
 returns-4 : tie.Need-returns-4
-returns-4 c = let s : tie.Start = search in rw (c .before .before .before .before .before .before .if1 .left) (other-refused (s .pre) (pos-of (c .before .before .before .before .before .if2 .left)) (c .before .before .before .point-at .ensures) (sym (c .before .before .equals .ensures) ∙ c .before .if3 .left) (c .if4 .taken))
+returns-4 c =
+    let else3 : tie.Else3 = search in
+    let e : tie.After-equals = search in
+    let p : tie.After-point-at = search in
+    let else2 : tie.Else2 = search in
+    let else1 : tie.Else1 = search in
+    let s : tie.Start = search in
+    rw (else1 .if1 .left) (other-refused (s .pre) (pos-of (else2 .if2 .left)) (p .point-at .ensures) (sym (e .equals .ensures) ∙ else3 .if3 .left) (c .if4 .taken))
 
 put-point-requires : tie.Need-put-point-requires
 put-point-requires c κs = search needs
@@ -60,7 +81,16 @@ same-length-7 : tie.Need-same-length-7
 same-length-7 c = search needs
 
 returns-5 : tie.Need-returns-5
-returns-5 c = let s : tie.Start = search in rw (c .before .before .before .before .before .before .before .before .before .if1 .left) (other-walked (s .pre) (pos-of (c .before .before .before .before .before .before .before .before .if2 .left)) (c .before .before .before .before .before .before .point-at .ensures) (sym (c .before .before .before .before .before .equals .ensures) ∙ c .before .before .before .before .if3 .left) (c .before .before .before .if4 .left) (c .before .put-point .ensures))
+returns-5 c =
+    let put : tie.After-put-point = search in
+    let else4 : tie.Else4 = search in
+    let else3 : tie.Else3 = search in
+    let e : tie.After-equals = search in
+    let point : tie.After-point-at = search in
+    let else2 : tie.Else2 = search in
+    let else1 : tie.Else1 = search in
+    let s : tie.Start = search in
+    rw (else1 .if1 .left) (other-walked (s .pre) (pos-of (else2 .if2 .left)) (point .point-at .ensures) (sym (e .equals .ensures) ∙ else3 .if3 .left) (else4 .if4 .left) (put .put-point .ensures))
 
 pub add-spec : {M : Type 1} → statement M
 add-spec =

@@ -21,7 +21,10 @@ point-at-requires : tie.Need-point-at-requires Inv-loop μ-loop
 point-at-requires c κs = search needs
 
 add-requires : tie.Need-add-requires Inv-loop μ-loop
-add-requires c κs = record { fits = c .before .before .before .before .loop .inv .going .fits; close = rw (c .point-at .ensures) (reached (let s : tie.Start Inv-loop μ-loop = search in path-limited (s .args .path .now) (s .pre .limit) (c .before .before .before .before .loop .i))) }
+add-requires c κs =
+    let h : tie.At-loop Inv-loop μ-loop = search in
+    let s : tie.Start Inv-loop μ-loop = search in
+    record { fits = h .loop .inv .going .fits; close = rw (c .point-at .ensures) (reached (path-limited (s .args .path .now) (s .pre .limit) (h .loop .i))) }
 
 enum-known-r : tie.Need-enum-known-r Inv-loop μ-loop
 enum-known-r c = search needs
@@ -30,13 +33,24 @@ enum-told : tie.Need-enum-told Inv-loop μ-loop
 enum-told c = search needs
 
 same-length : tie.Need-same-length Inv-loop μ-loop
-same-length c = c .before .before .before .before .before .add .kept .0 ∙ c .before .before .before .before .before .before .before .before .before .before .loop .inv .going .store-kept
+same-length c =
+    let a : tie.After-add Inv-loop μ-loop = search in
+    let h : tie.At-loop Inv-loop μ-loop = search in
+    a .add .kept .0 ∙ h .loop .inv .going .store-kept
 
 same-length-2 : tie.Need-same-length-2 Inv-loop μ-loop
-same-length-2 c = c .before .before .before .before .before .add .kept .1 .0 ∙ c .before .before .before .before .before .before .before .before .before .before .loop .inv .going .work-kept
+same-length-2 c =
+    let a : tie.After-add Inv-loop μ-loop = search in
+    let h : tie.At-loop Inv-loop μ-loop = search in
+    a .add .kept .1 .0 ∙ h .loop .inv .going .work-kept
 
 returns : tie.Need-returns Inv-loop μ-loop
-returns c = all-lost (c .before .before .before .before .before .before .before .before .before .before .loop .inv) (c .before .before .before .before .before .before .before .before .before .loop-test .taken) (c .before .before .before .before .before .before .point-at .ensures) (c .before .before .before .before .before .add .ensures) _ (c .enum-told .given .1)
+returns c =
+    let a : tie.After-add Inv-loop μ-loop = search in
+    let p : tie.After-point-at Inv-loop μ-loop = search in
+    let t : tie.In-loop Inv-loop μ-loop = search in
+    let h : tie.At-loop Inv-loop μ-loop = search in
+    all-lost (h .loop .inv) (t .loop-test .taken) (p .point-at .ensures) (a .add .ensures) _ (c .enum-told .given .1)
 
 add-i : tie.Need-add-i Inv-loop μ-loop
 add-i c = search needs
@@ -45,7 +59,13 @@ loop-less : tie.Need-loop-less Inv-loop μ-loop
 loop-less c = search needs
 
 loop-again : tie.Need-loop-again Inv-loop μ-loop
-loop-again c = all-again (c .before .before .before .before .before .before .before .before .before .before .before .loop .inv) (c .before .before .before .before .before .before .before .before .before .before .loop-test .taken) (c .before .before .before .before .before .before .before .point-at .ensures) (c .before .before .before .before .before .before .add .ensures) _ (c .before .r .given .1) (c .before .before .before .before .before .before .add .kept .0) (c .before .before .before .before .before .before .add .kept .1 .0)
+loop-again c =
+    let r : tie.After-r Inv-loop μ-loop = search in
+    let a : tie.After-add Inv-loop μ-loop = search in
+    let p : tie.After-point-at Inv-loop μ-loop = search in
+    let t : tie.In-loop Inv-loop μ-loop = search in
+    let h : tie.At-loop Inv-loop μ-loop = search in
+    all-again (h .loop .inv) (t .loop-test .taken) (p .point-at .ensures) (a .add .ensures) _ (r .r .given .1) (a .add .kept .0) (a .add .kept .1 .0)
 
 same-length-3 : tie.Need-same-length-3 Inv-loop μ-loop
 same-length-3 c = c .before .loop .inv .going .store-kept

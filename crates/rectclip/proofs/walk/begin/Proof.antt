@@ -26,7 +26,12 @@ same-length-2 : tie.Need-same-length-2
 same-length-2 c = search needs
 
 returns-2 : tie.Need-returns-2
-returns-2 c = let s : tie.Start = search in new-walked (s .pre) (c .before .before .before .before .before .before .before .if1 .left) (c .before .before .before .before .before .put-point .ensures) (c .before .before .store2 .ensures)
+returns-2 c =
+    let store2 : tie.After-store2 = search in
+    let p : tie.After-put-point = search in
+    let else1 : tie.Else1 = search in
+    let s : tie.Start = search in
+    new-walked (s .pre) (else1 .if1 .left) (p .put-point .ensures) (store2 .store2 .ensures)
 
 pub begin-spec : {M : Type 1} → statement M
 begin-spec =

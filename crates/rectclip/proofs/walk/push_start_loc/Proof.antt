@@ -23,7 +23,12 @@ same-length : tie.Need-same-length
 same-length c = search needs
 
 returns-2 : tie.Need-returns-2
-returns-2 c = let s : tie.Start = search in side-walked (s .args .loc) (s .pre) (c .before .before .before .before .before .if1 .left) (rw (c .before .before .before .number .ensures) at (c .before .before .store .ensures))
+returns-2 c =
+    let store : tie.After-store = search in
+    let n : tie.After-number = search in
+    let else1 : tie.Else1 = search in
+    let s : tie.Start = search in
+    side-walked (s .args .loc) (s .pre) (else1 .if1 .left) (rw (n .number .ensures) at (store .store .ensures))
 
 pub push-start-loc-spec : {M : Type 1} → statement M
 push-start-loc-spec =

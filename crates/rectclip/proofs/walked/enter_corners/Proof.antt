@@ -12,28 +12,55 @@ add-to-edge-requires : tie.Need-add-to-edge-requires
 add-to-edge-requires c κs = may-enter-corner (c .before .before .pre .0) _ _ (c .before .before .pre .1 .first) (omega (arith, c .before .before .pre .0 .corners))
 
 sub-add-to-edge-2 : tie.Need-sub-add-to-edge-2
-sub-add-to-edge-2 c = omega (arith, c .before .before .before .before .before .before .pre .0 .corners)
+sub-add-to-edge-2 c =
+    let s : tie.Start = search in
+    omega (arith, s .pre .0 .corners)
 
 add-to-edge-requires-2 : tie.Need-add-to-edge-requires-2
-add-to-edge-requires-2 c κs = let k = cornered-on (c .before .before .before .before .before .before .pre .0) (c .before .before .before .add-to-edge .ensures) in may-enter-corner k _ _ (c .before .before .before .before .before .before .pre .1 .second) (omega (arith, c .before .before .before .before .before .before .pre .0 .corners, c .before .before .before .add-to-edge .ensures .becomes .nodes))
+add-to-edge-requires-2 c κs =
+    let a : tie.After-add-to-edge = search in
+    let s : tie.Start = search in
+    let k = cornered-on (s .pre .0) (a .add-to-edge .ensures) in
+    may-enter-corner k _ _ (s .pre .1 .second) (omega (arith, s .pre .0 .corners, a .add-to-edge .ensures .becomes .nodes))
 
 sub-add-to-edge-3 : tie.Need-sub-add-to-edge-3
-sub-add-to-edge-3 c = omega (arith, c .before .before .before .before .before .before .before .before .before .before .pre .0 .corners)
+sub-add-to-edge-3 c =
+    let s : tie.Start = search in
+    omega (arith, s .pre .0 .corners)
 
 add-to-edge-requires-3 : tie.Need-add-to-edge-requires-3
-add-to-edge-requires-3 c κs = let k = cornered-on (cornered-on (c .before .before .before .before .before .before .before .before .before .before .pre .0) (c .before .before .before .before .before .before .before .add-to-edge .ensures)) (c .before .before .before .add-to-edge2 .ensures) in may-enter-corner k _ _ (c .before .before .before .before .before .before .before .before .before .before .pre .1 .third) (omega (arith, c .before .before .before .before .before .before .before .before .before .before .pre .0 .corners, c .before .before .before .before .before .before .before .add-to-edge .ensures .becomes .nodes, c .before .before .before .add-to-edge2 .ensures .becomes .nodes))
+add-to-edge-requires-3 c κs =
+    let a2 : tie.After-add-to-edge2 = search in
+    let a : tie.After-add-to-edge = search in
+    let s : tie.Start = search in
+    let k = cornered-on (cornered-on (s .pre .0) (a .add-to-edge .ensures)) (a2 .add-to-edge2 .ensures) in
+    may-enter-corner k _ _ (s .pre .1 .third) (omega (arith, s .pre .0 .corners, a .add-to-edge .ensures .becomes .nodes, a2 .add-to-edge2 .ensures .becomes .nodes))
 
 sub-add-to-edge-4 : tie.Need-sub-add-to-edge-4
-sub-add-to-edge-4 c = omega (arith, c .before .before .before .before .before .before .before .before .before .before .before .before .before .before .pre .0 .corners)
+sub-add-to-edge-4 c =
+    let s : tie.Start = search in
+    omega (arith, s .pre .0 .corners)
 
 add-to-edge-requires-4 : tie.Need-add-to-edge-requires-4
-add-to-edge-requires-4 c κs = let k = cornered-on (cornered-on (cornered-on (c .before .before .before .before .before .before .before .before .before .before .before .before .before .before .pre .0) (c .before .before .before .before .before .before .before .before .before .before .before .add-to-edge .ensures)) (c .before .before .before .before .before .before .before .add-to-edge2 .ensures)) (c .before .before .before .add-to-edge3 .ensures) in may-enter-corner k _ _ (c .before .before .before .before .before .before .before .before .before .before .before .before .before .before .pre .1 .fourth) (omega (arith, c .before .before .before .before .before .before .before .before .before .before .before .before .before .before .pre .0 .corners, c .before .before .before .before .before .before .before .before .before .before .before .add-to-edge .ensures .becomes .nodes, c .before .before .before .before .before .before .before .add-to-edge2 .ensures .becomes .nodes, c .before .before .before .add-to-edge3 .ensures .becomes .nodes))
+add-to-edge-requires-4 c κs =
+    let a3 : tie.After-add-to-edge3 = search in
+    let a2 : tie.After-add-to-edge2 = search in
+    let a : tie.After-add-to-edge = search in
+    let s : tie.Start = search in
+    let k = cornered-on (cornered-on (cornered-on (s .pre .0) (a .add-to-edge .ensures)) (a2 .add-to-edge2 .ensures)) (a3 .add-to-edge3 .ensures) in
+    may-enter-corner k _ _ (s .pre .1 .fourth) (omega (arith, s .pre .0 .corners, a .add-to-edge .ensures .becomes .nodes, a2 .add-to-edge2 .ensures .becomes .nodes, a3 .add-to-edge3 .ensures .becomes .nodes))
 
 same-length : tie.Need-same-length
 same-length c = search needs
 
 returns : tie.Need-returns
-returns c = four-entered (c .before .before .before .before .before .before .before .before .before .before .before .before .before .before .before .before .before .args .s .nodes) (c .before .before .before .before .before .before .before .before .before .before .before .before .before .before .before .before .before .args .e0) (c .before .before .before .before .before .before .before .before .before .before .before .before .before .before .before .before .before .args .e1) (c .before .before .before .before .before .before .before .before .before .before .before .before .before .before .before .before .before .args .e2) (c .before .before .before .before .before .before .before .before .before .before .before .before .before .before .before .before .before .args .e3) (c .before .before .before .before .before .before .before .before .before .before .before .before .before .before .add-to-edge .ensures) (c .before .before .before .before .before .before .before .before .before .before .add-to-edge2 .ensures) (c .before .before .before .before .before .before .add-to-edge3 .ensures) (c .before .before .add-to-edge4 .ensures)
+returns c =
+    let a4 : tie.After-add-to-edge4 = search in
+    let a3 : tie.After-add-to-edge3 = search in
+    let a2 : tie.After-add-to-edge2 = search in
+    let a : tie.After-add-to-edge = search in
+    let s : tie.Start = search in
+    four-entered (s .args .s .nodes) (s .args .e0) (s .args .e1) (s .args .e2) (s .args .e3) (a .add-to-edge .ensures) (a2 .add-to-edge2 .ensures) (a3 .add-to-edge3 .ensures) (a4 .add-to-edge4 .ensures)
 
 pub enter-corners-spec : {M : Type 1} → statement M
 enter-corners-spec =

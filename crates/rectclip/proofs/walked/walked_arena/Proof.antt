@@ -9,13 +9,20 @@ build-ring-requires : tie.Need-build-ring-requires
 build-ring-requires c κs = (c .before .before .before .pre .room, omega (arith, c .before .before .before .pre .points))
 
 enter-round-requires : tie.Need-enter-round-requires
-enter-round-requires c κs = ring-cornered (c .before .before .before .before .before .before .before .pre) (c .before .before .before .build-ring .ensures)
+enter-round-requires c κs =
+    let b : tie.After-build-ring = search in
+    let s : tie.Start = search in
+    ring-cornered (s .pre) (b .build-ring .ensures)
 
 same-length : tie.Need-same-length
 same-length c = search needs
 
 returns : tie.Need-returns
-returns c = arranged (c .before .before .before .before .before .before .before .before .before .before .pre) (c .before .before .before .before .before .before .build-ring .ensures) (c .before .before .enter-round .ensures)
+returns c =
+    let e : tie.After-enter-round = search in
+    let b : tie.After-build-ring = search in
+    let s : tie.Start = search in
+    arranged (s .pre) (b .build-ring .ensures) (e .enter-round .ensures)
 
 pub walked-arena-spec : {M : Type 1} → statement M
 walked-arena-spec =

@@ -15,9 +15,9 @@ enum-known-bounds c = search needs
 
 draw-lines-requires : tie.Need-draw-lines-requires
 draw-lines-requires c κs =
-    let b : tie.After-bounds = c .before .before .before .before .before in
-    let a : tie.After-admit = b .before .before in
-    let s : tie.Start = a .before .before .before .before in
+    let b : tie.After-bounds = search in
+    let a : tie.After-admit = search in
+    let s : tie.Start = search in
     drawable (s .args .self .rect) (s .args .path .now) (s .args .coordinates .now) (s .args .lengths .now) (s .args .store .now) (s .args .work .now) (a .admit .result) (a .admit .ensures) _ (b .bounds .given .1)
 
 clear-store-requires : tie.Need-clear-store-requires
@@ -28,9 +28,9 @@ clear-work-requires c κs = search needs
 
 returns : tie.Need-returns
 returns c =
-    let w : tie.After-why = c .before in
-    let a : tie.After-admit = w .before .before in
-    let s : tie.Start = a .before .before .before .before in
+    let w : tie.After-why = search in
+    let a : tie.After-admit = search in
+    let s : tie.Start = search in
     refused-early (s .args .self .rect) (s .args .path .now) (s .args .coordinates .now) (s .args .lengths .now) (s .args .store .now) (s .args .work .now) (a .admit .result) (a .admit .ensures) _ (w .why .given .1)
 
 same-length : tie.Need-same-length
@@ -47,13 +47,15 @@ same-length-4 c = search needs
 
 returns-2 : tie.Need-returns-2
 returns-2 c =
-    let d : tie.After-draw-lines = c .before .before .before .before .before .before .before .before .before .before .before .before .before in
-    let b : tie.After-bounds = d .before .before .before .before .before .before in
-    let a : tie.After-admit = b .before .before in
-    let s : tie.Start = a .before .before .before .before in
+    let clear-work : tie.After-clear-work = search in
+    let clear-store : tie.After-clear-store = search in
+    let d : tie.After-draw-lines = search in
+    let b : tie.After-bounds = search in
+    let a : tie.After-admit = search in
+    let s : tie.Start = search in
     let store = d .draw-lines .last .1 .1 .1 .0 in
     let work = d .draw-lines .last .1 .1 .1 .1 .0 in
-    clipped (s .args .self .rect) (s .args .path .now) (s .args .coordinates .now) (s .args .lengths .now) (s .args .store .now) (s .args .work .now) (a .admit .result) (a .admit .ensures) _ (b .bounds .given .1) (d .draw-lines .ensures) store work (d .draw-lines .kept .1 .1 .1 .0) (d .draw-lines .kept .1 .1 .1 .1 .0) (c .before .before .before .before .before .clear-store .ensures) (c .before .before .clear-work .ensures)
+    clipped (s .args .self .rect) (s .args .path .now) (s .args .coordinates .now) (s .args .lengths .now) (s .args .store .now) (s .args .work .now) (a .admit .result) (a .admit .ensures) _ (b .bounds .given .1) (d .draw-lines .ensures) store work (d .draw-lines .kept .1 .1 .1 .0) (d .draw-lines .kept .1 .1 .1 .1 .0) (clear-store .clear-store .ensures) (clear-work .clear-work .ensures)
 
 pub execute-spec : {M : Type 1} → statement M
 execute-spec =
