@@ -8,3 +8,4 @@ pub mod FieldList
 pub mod DigitLoops
 pub mod Lines
 pub mod Puts
+pub mod Widths
