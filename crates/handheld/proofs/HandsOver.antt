@@ -1,6 +1,6 @@
 -- A call whose lists have room for every drawing leaves the drawing in them: the checks before it are those of `clipped`, and no drawing
 -- is refused with 11. Assumes nothing.
-use mathlib.Core.Path.{_≡_, refl, sym, _∙_, ap}
+use mathlib.Core.Path.{_≡_, refl, _∙_, ap}
 use mathlib.Core.Bool.{Bool, true, false}
 use mathlib.Core.List.{List, map}
 use Prim.Native.Nat.{ℕ, _/_, _%_, _≤_}

@@ -1,4 +1,4 @@
--- What the handheld draws: a path of at most 128 points, W = A = 256; lines have A = 0. A function of rectangle and path alone.
+-- What the handheld draws of a path, a function of rectangle and path alone: document 01's 'W = A = 256 and paths up to 128 points'; lines have A = 0.
 -- Stated of it and proved in proofs/HandsOver.antt and Bounded.antt: a call leaves this drawing in its lists, and how large a drawing can be.
 use mathlib.Core.Path.{_≡_}
 use mathlib.Core.Bool.{Bool}
