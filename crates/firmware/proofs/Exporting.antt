@@ -1,41 +1,28 @@
--- What is sent of a clipper's answer is the definition's `exported`: the checks before it are the same, and the lists have room for every
--- result, so that the clipper never refuses with 11. Assumes nothing.
-use mathlib.Core.Path.{_≡_, refl, _∙_, ap, subst}
+-- What is sent of a clipper's answer is the definition's `exported`: the checks before it are the same, and a call leaves its drawing in the
+-- lists, which have room for every one. Assumes nothing.
+use mathlib.Core.Path.{_≡_, refl, _∙_, ap}
 use mathlib.Core.Bool.{Bool, true, false, not}
-use mathlib.Core.List.{List, [], _∷_}
+use mathlib.Core.List.{List}
 use Prim.Native.Nat.{ℕ, _/_, _%_, _<_, _≤_}
 use native.Mathlib.Omega.{arith}
-use lib.ListN.{length, length-append, length-map, take, drop}
+use lib.ListN.{length, length-append, take, drop}
 use lib.Seq.{take-at}
 use lib.Dec.{eqb, ltb}
 use lib.IntN.{ℤ}
-use borrow.Author.Tests.{lt-ltb, le-ltb, ltb-true, ltb-false, eqb-true, ne-eqb}
-use Rattle.integers.specs.Tests.{T-of}
-use Rattle.plane.specs.declared.point.Point64.{Point64}
+use borrow.Author.Tests.{lt-ltb, ltb-true, ltb-false, eqb-true, ne-eqb}
 use Rattle.plane.specs.declared.rect.Rect64.{Rect64}
-use Rattle.plane.specs.Basics.{if_then_else_, Try, refuse, ok, _>>=_}
-use Rattle.plane.specs.Points.{points-of}
-use Rattle.plane.specs.Limit.{rect-in-limit, all-in-limit}
-use Rattle.plane.specs.Rectangle.{is-empty, intersects, contains-rect, get-bounds-path}
-use Rattle.reference.specs.Walk.{no-room}
-use Rattle.reference.specs.Clip.{execute}
-use Rattle.reference.specs.Lines.{execute-lines}
-use Rattle.reference.specs.Entry.{Drawing, Lent, joined, filled, early-refusal, sheet-refusal}
+use Rattle.plane.specs.Basics.{if_then_else_}
+use Rattle.reference.specs.Entry.{Outcome, filled, sheet-refusal}
 use Rattle.reference.specs.Exported.{Bytes, read-words, exported}
-use Rattle.theorems.specs.Demand.{is-walked}
-use Rattle.theorems.proofs.FewPoints.{few-points}
-use Rattle.theorems.proofs.FewResults.{few-results}
-use Rattle.theorems.proofs.FewLines.{few-lines}
-use Rattle.entry.proofs.Admitting.{let-through}
 use Rattle.entry.specs.declared.answer.Answer.{Answer}
 use Rattle.entry.specs.Answers.{outcome}
-use Rattle.rectclip.proofs.Coordinates.{points-length}
-use Rattle.firmware.specs.Sending.{path-refusal, sent, Sendable, drawing-of}
 use Rattle.rectclip.specs.Promises.{Leaves}
-use Rattle.handheld.specs.Called.{called as handheld}
-use Rattle.firmware.proofs.Clippers.{called, lists, called-leaves}
+use Rattle.handheld.specs.Called.{called}
+use Rattle.handheld.specs.Drawn.{clipped, handed}
+use Rattle.handheld.proofs.HandsOver.{hands-over}
+use Rattle.firmware.specs.Sending.{path-refusal, sent, Sendable}
 use Rattle.firmware.proofs.Bytes.{read-length}
-use Rattle.firmware.proofs.Sending.{coordinates-length, sendable, exported-by, Roomy, sent-answered}
+use Rattle.firmware.proofs.Sending.{sendable, exported-by, sent-is}
 
 -- a choice between a refusal and more that is 0
 chosen : (b : Bool) (n : ℕ) {m : ℕ} → 0 < n → (if b then n else m) ≡ 0 → (b ≡ false) × (m ≡ 0)
@@ -72,68 +59,17 @@ module _ (bytes : List ℕ) where
     few : length (read-words bytes) / 2 ≤ 128
     few = omega (arith, ltb-false 1024 (length bytes) (whole .1), read-length bytes)
 
-    early-same : (closed : Bool) (R : Rect64) → early-refusal 256 (if closed then 256 else 0) 8208 R (read-words bytes) ≡ (if not (eqb (length bytes % 8) 0) then 1 else sheet-refusal 128 R (read-words bytes))
-    unfolding early-refusal sheet-refusal
-    early-same closed R =
+    -- the checks are those of `clipped`
+    exported-is : (closed : Bool) (R : Rect64) (coordinates lengths counts : List ℕ) → exported-by (clipped closed R (read-words bytes)) coordinates lengths counts ≡ exported closed R bytes coordinates lengths counts
+    unfolding exported clipped
+    exported-is closed R coordinates lengths counts =
         let even : length (read-words bytes) % 2 ≡ 1 → ⊥ = λ z. omega (arith, eqb-true (length bytes % 8) 0 (whole .0), read-length bytes) in
-        let odd = ne-eqb (length (read-words bytes) % 2) 1 even in
-        let long = le-ltb 4096 (length (read-words bytes) / 2) (omega (arith, few)) in
-        let most = le-ltb 128 (length (read-words bytes) / 2) few in
-        go closed odd long most
+        go (ne-eqb (length (read-words bytes) % 2) 1 even) (eqb (sheet-refusal 128 R (read-words bytes)) 0) refl
       where
-        go : (closed : Bool) → eqb (length (read-words bytes) % 2) 1 ≡ false → ltb 4096 (length (read-words bytes) / 2) ≡ false → ltb 128 (length (read-words bytes) / 2) ≡ false
-            → early-refusal 256 (if closed then 256 else 0) 8208 R (read-words bytes) ≡ (if not (eqb (length bytes % 8) 0) then 1 else sheet-refusal 128 R (read-words bytes))
-        go true odd long most = rw (odd, long, most, whole .0) refl
-        go false odd long most = rw (odd, long, most, whole .0) refl
-
--- ---- the room
--- at most 256 points and 257 paths
-pub record Few (d : Drawing) : Type 0 where
-  pub points : length (joined (d .0)) ≤ 256
-  pub paths : length (d .0) ≤ 257
-
-module _ (R : Rect64) (path : List ℤ) (short : length path / 2 ≤ 128) where
-  few-open : (d : Drawing) → (execute-lines (no-room 256) R (points-of path) >>= λ paths. ok (paths, 0)) ≡ ok d → Few d
-  few-open d e = go (execute-lines (no-room 256) R (points-of path)) refl e
-    where
-      go : (t : Try (List (List Point64))) → execute-lines (no-room 256) R (points-of path) ≡ t → (t >>= λ paths. ok (paths, 0)) ≡ ok d → Few d
-      go (refuse n) f e = absurd (let z : _≡_ {A = ℕ} 0 1 = cc in omega arith)
-      go (ok paths) f e =
-          let z : _≡_ {A = Drawing} (paths, 0) d = cc in
-          let m = few-lines 256 R (points-of path) paths f in
-          subst Few z (record { points = m .0; paths = omega (arith, m .1) })
-
-  few-closed : rect-in-limit R ≡ true → all-in-limit path ≡ true → (d : Drawing) → execute (no-room 256) 256 R (points-of path) ≡ ok d → Few d
-  unfolding execute is-walked
-  few-closed f g d e = go (is-empty R) refl (ltb (length (points-of path)) 3) refl (intersects R (get-bounds-path (points-of path))) refl (contains-rect R (get-bounds-path (points-of path))) refl
-    where
-      nothing : _≡_ {A = Try Drawing} (ok ([], 0)) (ok d) → Few d
-      nothing q = let z : _≡_ {A = Drawing} ([], 0) d = cc in subst Few z (record { points = omega arith; paths = omega arith })
-
-      whole-path : _≡_ {A = Try Drawing} (ok (points-of path ∷ [], 0)) (ok d) → Few d
-      whole-path q =
-          let z : _≡_ {A = Drawing} (points-of path ∷ [], 0) d = cc in
-          subst Few z (record { points = omega (arith, length-append (points-of path) [], points-length path); paths = omega arith })
-
-      go : (a : Bool) → is-empty R ≡ a → (b : Bool) → ltb (length (points-of path)) 3 ≡ b → (s : Bool) → intersects R (get-bounds-path (points-of path)) ≡ s → (t : Bool) → contains-rect R (get-bounds-path (points-of path)) ≡ t → Few d
-      go true p b q s u t v = nothing (rw p at e)
-      go false p true q s u t v = nothing (rw (p, q) at e)
-      go false p false q false u t v = nothing (rw (p, q, u) at e)
-      go false p false q true u true v = whole-path (rw (p, q, u, v) at e)
-      go false p false q true u false v =
-          let w : is-walked R (points-of path) ≡ true = rw (p, q, u, v) refl in
-          let m = few-results (no-room 256) 256 R (points-of path) (d .0) (d .1) e in
-          record { points = few-points 256 256 R path (d .0) (d .1) (omega arith) (T-of f) (T-of g) (T-of w) e; paths = omega (arith, m .0, m .1) }
-
-  few-drawn : (closed : Bool) → early-refusal 256 (if closed then 256 else 0) 8208 R path ≡ 0 → (d : Drawing) → drawing-of closed R path ≡ ok d → Few d
-  few-drawn true z d e = let m = let-through 256 256 8208 R path z in few-closed (m .frame) (m .points) d e
-  few-drawn false z d e = few-open d e
-
-  roomy : (closed : Bool) (l : Lent) → length (l .coordinates) ≡ 512 → length (l .lengths) ≡ 257 → Roomy l (early-refusal 256 (if closed then 256 else 0) 8208 R path) (drawing-of closed R path)
-  roomy closed l a b = record {
-    points = λ d z e. omega (arith, few-drawn closed z d e .points, coordinates-length (joined (d .0)));
-    paths = λ d z e. omega (arith, few-drawn closed z d e .paths, length-map (d .0) length);
-  }
+        go : eqb (length (read-words bytes) % 2) 1 ≡ false → (b : Bool) → eqb (sheet-refusal 128 R (read-words bytes)) 0 ≡ b
+            → exported-by (clipped closed R (read-words bytes)) coordinates lengths counts ≡ exported closed R bytes coordinates lengths counts
+        go odd true z = rw (odd, whole .0, z) refl
+        go odd false z = rw (odd, whole .0, z) refl
 
 -- ---- the entries
 -- room for the numbers that are read
@@ -147,20 +83,16 @@ read-fits bytes l e = omega (arith, ap length e, length-append (read-words bytes
 pub part-read : (bytes : List ℕ) (l : List ℤ) → take (length bytes / 4) (filled (read-words bytes) l) ≡ read-words bytes
 part-read bytes l = take-at (read-words bytes) (drop (length (read-words bytes)) l) (length bytes / 4) (read-length bytes)
 
-module _ (closed : Bool) (R : Rect64) (path results : List ℤ) (numbers : List ℕ) {r : Answer} {results′ : List ℤ} {numbers′ : List ℕ} (h : Leaves (handheld closed R path results numbers) r results′ numbers′) where
-  k : Leaves (called closed R path (lists results numbers)) r results′ numbers′
-  k = called-leaves closed R path results numbers h
+module _ (bytes : List ℕ) (e : path-refusal bytes ≡ 0) (closed : Bool) (R : Rect64) (path results : List ℤ) (numbers : List ℕ) {r : Answer} {results′ : List ℤ} {numbers′ : List ℕ}
+    (p : path ≡ read-words bytes) (a : length results ≡ 512) (b : length numbers ≡ 257) (h : Leaves (called closed R path results numbers) r results′ numbers′) where
+  left : _≡_ {A = Outcome × List ℤ × List ℕ} (outcome r, results′, numbers′) (handed results numbers (clipped closed R path))
+  left = hands-over closed R path results numbers r results′ numbers′ (rw p (few bytes e)) a b h
 
   pub may-send : Sendable (outcome r) results′ numbers′
-  may-send = rw (k .answer, k .coords, k .counts) (sendable (lists results numbers) (early-refusal 256 (if closed then 256 else 0) 8208 R path) (drawing-of closed R path))
+  may-send = sendable results numbers (clipped closed R path) left
 
-  pub all-exported : (bytes coordinates lengths counts : List ℕ) {v : Bytes} → path-refusal bytes ≡ 0 → path ≡ read-words bytes → length results ≡ 512 → length numbers ≡ 257
-      → v ≡ sent (outcome r) results′ numbers′ coordinates lengths counts → v ≡ exported closed R bytes coordinates lengths counts
-  unfolding exported
-  all-exported bytes coordinates lengths counts z p a b e =
-      let short : length path / 2 ≤ 128 = rw p (few bytes z) in
-      let l : Lent = lists results numbers in
-      e ∙ (λ i. sent (k .answer i) (k .coords i) (k .counts i) coordinates lengths counts)
-      ∙ sent-answered l coordinates lengths counts (early-refusal 256 (if closed then 256 else 0) 8208 R path) (drawing-of closed R path) (roomy R path short closed l a b)
-      ∙ ap (λ (read : List ℤ). exported-by (early-refusal 256 (if closed then 256 else 0) 8208 R read) (drawing-of closed R read) coordinates lengths counts) p
-      ∙ ap (λ (n : ℕ). exported-by n (drawing-of closed R (read-words bytes)) coordinates lengths counts) (early-same bytes z closed R)
+  pub all-exported : (coordinates lengths counts : List ℕ) {v : Bytes} → v ≡ sent (outcome r) results′ numbers′ coordinates lengths counts → v ≡ exported closed R bytes coordinates lengths counts
+  all-exported coordinates lengths counts q =
+      q ∙ sent-is results numbers coordinates lengths counts (clipped closed R path) left
+      ∙ ap (λ (read : List ℤ). exported-by (clipped closed R read) coordinates lengths counts) p
+      ∙ exported-is bytes e closed R coordinates lengths counts

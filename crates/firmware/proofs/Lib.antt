@@ -2,6 +2,5 @@
 pub mod Bytes
 pub mod Signs
 pub mod Sending
-pub mod Clippers
 pub mod Exporting
 pub mod ReadBack

@@ -1,30 +1,19 @@
 -- What is read from the bytes of a result are the definition's coordinates: each is at most one unit outside the coordinate limit, so
 -- that 32 signed bits hold it. Assumes nothing.
-use mathlib.Core.Path.{_≡_, refl, sym, _∙_, ap, subst}
-use mathlib.Core.Bool.{Bool, true, false}
+use mathlib.Core.Path.{_≡_, refl, sym, _∙_, ap}
 use mathlib.Core.List.{List, [], _∷_, _++_, map, List·Memᴰ, List·Memᴰ·head, List·Memᴰ·tail}
 use Prim.Native.Nat.{ℕ, suc, _+_, _-_, _*_, _/_, _%_, _<_, _≤_}
 use native.Mathlib.Omega.{arith}
 use native.Mathlib.Nat.{div-div-eq-div-mul}
-use lib.IntN.{ℤ, pos, negsuc, natAbs, _+ℤ_, _-ℤ_}
-use lib.Signed.{_≤ℤ_}
+use lib.IntN.{ℤ, pos, negsuc, natAbs}
 use borrow.Author.Tests.{lt-ltb, le-ltb}
-use Rattle.integers.specs.Tests.{T-of}
-use Rattle.integers.specs.Order.{zint, add-pn, sub-pn}
+use Rattle.integers.specs.Order.{zint, sub-pn}
 use Rattle.plane.specs.declared.point.Point64.{Point64}
-use Rattle.plane.specs.declared.rect.Rect64.{Rect64}
-use Rattle.plane.specs.Basics.{if_then_else_, Try, refuse, ok, _>>=_}
-use Rattle.plane.specs.Points.{points-of, coordinates-of}
-use Rattle.reference.specs.Walk.{no-room}
-use Rattle.reference.specs.Lines.{execute-lines}
-use Rattle.reference.specs.Entry.{Drawing, joined, early-refusal}
+use Rattle.plane.specs.Points.{coordinates-of}
+use Rattle.reference.specs.Entry.{joined}
 use Rattle.reference.specs.Exported.{signed, bits, words, read-words}
-use Rattle.theorems.specs.Demand.{AtMostOneOutside}
-use Rattle.theorems.proofs.Demand.{LimitedRect, rect-limited}
-use Rattle.theorems.proofs.ClosedArea.{call-bounded, demand-3}
-use Rattle.firmware.specs.Sending.{drawing-of}
+use Rattle.handheld.proofs.Bounded.{always-bounded}
 use Rattle.firmware.specs.ReadBack.{ReadsBack}
-use Rattle.entry.proofs.Admitting.{let-through}
 
 -- ---- one number
 -- each quotient is 256 times the next and its byte
@@ -60,46 +49,13 @@ read-back none = refl
 read-back (more {z} {cs} h s) = let e = ap signed (back-bytes (bits z) (bits-fit z h)) ∙ signed-bits z h in λ i. e i ∷ read-back s i
 
 -- ---- the coordinates of returned points
-upper : (b : ℤ) (n : ℕ) → natAbs b ≤ 33554432 → pos n ≤ℤ (b +ℤ pos 1) → n ≤ 33554433
-upper (pos b) n g k = omega (zint, add-pn (pos b) (pos 1))
-upper (negsuc b) n g k = omega (zint, add-pn (negsuc b) (pos 1))
+near-path : (q : List Point64) → ((p : Point64) → List·Memᴰ p q → (natAbs (p .x) ≤ 33554433) × (natAbs (p .y) ≤ 33554433)) → (rest : List Point64) → Small (coordinates-of rest) → Small (coordinates-of (q ++ rest))
+near-path [] near rest s = s
+near-path (p ∷ q) near rest s = let m = near p (List·Memᴰ·head refl) in more (m .0) (more (m .1) (near-path q (λ p′ i. near p′ (List·Memᴰ·tail i)) rest s))
 
-lower : (a : ℤ) (n : ℕ) → natAbs a ≤ 33554432 → (a -ℤ pos 1) ≤ℤ negsuc n → suc n ≤ 33554433
-lower (pos a) n g k = omega (zint, sub-pn (pos a) (pos 1))
-lower (negsuc a) n g k = omega (zint, sub-pn (negsuc a) (pos 1))
+near-joined : (paths : List (List Point64)) → ((q : List Point64) → List·Memᴰ q paths → (p : Point64) → List·Memᴰ p q → (natAbs (p .x) ≤ 33554433) × (natAbs (p .y) ≤ 33554433)) → Small (coordinates-of (joined paths))
+near-joined [] near = none
+near-joined (q ∷ paths) near = near-path q (near q (List·Memᴰ·head refl)) (joined paths) (near-joined paths (λ q′ i. near q′ (List·Memᴰ·tail i)))
 
-within : (a b z : ℤ) → natAbs a ≤ 33554432 → natAbs b ≤ 33554432 → (a -ℤ pos 1) ≤ℤ z → z ≤ℤ (b +ℤ pos 1) → natAbs z ≤ 33554433
-within a b (pos n) f g h k = upper b n g k
-within a b (negsuc n) f g h k = lower a n f h
-
-module _ (R : Rect64) (lim : LimitedRect R) where
-  small-path : (q : List Point64) → ((p : Point64) → List·Memᴰ p q → AtMostOneOutside R p) → (rest : List Point64) → Small (coordinates-of rest) → Small (coordinates-of (q ++ rest))
-  small-path [] h rest s = s
-  small-path (p ∷ q) h rest s =
-      let o = h p (List·Memᴰ·head refl) in
-      let x = within (R .left) (R .right) (p .x) (lim .left) (lim .right) (o .left) (o .right) in
-      let y = within (R .top) (R .bottom) (p .y) (lim .top) (lim .bottom) (o .top) (o .bottom) in
-      more x (more y (small-path q (λ p′ m. h p′ (List·Memᴰ·tail m)) rest s))
-
-  small-joined : (paths : List (List Point64)) → ((q : List Point64) → List·Memᴰ q paths → (p : Point64) → List·Memᴰ p q → AtMostOneOutside R p) → Small (coordinates-of (joined paths))
-  small-joined [] h = none
-  small-joined (q ∷ paths) h = small-path q (h q (List·Memᴰ·head refl)) (joined paths) (small-joined paths (λ q′ m. h q′ (List·Memᴰ·tail m)))
-
--- ---- the two clippers
 pub reads-back : ReadsBack
-reads-back closed R path d z e = read-back (go closed z e)
-  where
-    go : (closed : Bool) → early-refusal 256 (if closed then 256 else 0) 8208 R path ≡ 0 → drawing-of closed R path ≡ ok d → Small (coordinates-of (joined (d .0)))
-    go true z e =
-        let m = let-through 256 256 8208 R path z in
-        let D = demand-3 (no-room 256) 256 R path (call-bounded 256 (omega arith)) (T-of (m .frame)) (T-of (m .points)) in
-        small-joined R (rect-limited R (T-of (m .frame))) (d .0) (D .closed-sourced (d .0) (d .1) e .close-by)
-    go false z e = lines (execute-lines (no-room 256) R (points-of path)) refl e
-      where
-        lines : (t : Try (List (List Point64))) → execute-lines (no-room 256) R (points-of path) ≡ t → (t >>= λ paths. ok (paths, 0)) ≡ ok d → Small (coordinates-of (joined (d .0)))
-        lines (refuse n) f e = absurd (let w : _≡_ {A = ℕ} 0 1 = cc in omega arith)
-        lines (ok paths) f e =
-            let w : _≡_ {A = Drawing} (paths, 0) d = cc in
-            let m = let-through 256 0 8208 R path z in
-            let D = demand-3 (no-room 256) 0 R path (call-bounded 256 (omega arith)) (T-of (m .frame)) (T-of (m .points)) in
-            subst (λ (x : Drawing). Small (coordinates-of (joined (x .0)))) w (small-joined R (rect-limited R (T-of (m .frame))) paths (D .open-sourced paths f .close-by))
+reads-back closed R path d e = read-back (near-joined (d .0) (always-bounded closed R path d e .near))

@@ -1,19 +1,20 @@
--- What is sent of an answer: the four ways of a result, and that what a clipper answers can be sent. Assumes nothing.
-use mathlib.Core.Path.{_≡_, refl, sym, subst}
-use mathlib.Core.Bool.{Bool, true, false, _||_}
+-- What is sent of an answer: the four ways of a result, and that what a call leaves can be sent and is the end of `exported`. Assumes nothing.
+use mathlib.Core.Path.{_≡_, refl, sym, _∙_, ap, subst}
+use mathlib.Core.Bool.{_||_}
 use mathlib.Core.List.{List, [], _∷_, map}
 use Prim.Native.Nat.{ℕ, _*_, _%_, _<_, _≤_}
 use native.Mathlib.Omega.{arith}
 use lib.ListN.{length, take, drop, length-append, length-map}
 use lib.Seq.{take-at, length-take-le}
-use lib.Dec.{eqb, ltb}
+use lib.Dec.{ltb}
 use lib.IntN.{ℤ}
-use borrow.Author.Tests.{lt-ltb, le-ltb, eqb-true, ne-eqb, eq-eqb}
-use Rattle.plane.specs.declared.point.Point64.{Point64}
+use borrow.Author.Tests.{lt-ltb, le-ltb, ne-eqb, eq-eqb}
 use Rattle.plane.specs.Basics.{if_then_else_, Try, refuse, ok}
 use Rattle.plane.specs.Points.{coordinates-of}
-use Rattle.reference.specs.Entry.{Drawing, drawn, Lent, joined, filled, delivered, answered}
+use Rattle.reference.specs.Entry.{Drawing, Outcome, drawn, joined, filled}
 use Rattle.reference.specs.Exported.{Bytes, bits, words}
+use Rattle.rectclip.proofs.Writing.{coordinates-length}
+use Rattle.handheld.specs.Drawn.{handed}
 use Rattle.firmware.specs.Sending.{path-refusal, sent, Sendable}
 use Rattle.firmware.proofs.Bytes.{words-length}
 
@@ -47,72 +48,51 @@ module _ (paths points turns : ℕ) (results : List ℤ) (numbers c l k : List �
 pub part-room : {A : Type 0} (n k : ℕ) (l : List A) → n ≤ length l → {m : ℕ} → k * n ≤ m → k * length (take n l) ≤ m
 part-room n k l h {m} g = subst (λ (x : ℕ). k * x ≤ m) (sym (length-take-le n l h)) g
 
--- ---- what a clipper answers
-pub coordinates-length : (ps : List Point64) → length (coordinates-of ps) ≡ 2 * length ps
-coordinates-length [] = refl
-coordinates-length (p ∷ ps) = let e = coordinates-length ps in omega arith
-
+-- ---- what a call with room for every drawing leaves
 front : {A : Type 0} (xs l : List A) {n : ℕ} → length xs ≡ n → n ≤ length (filled xs l)
 front xs l e = omega (arith, length-append xs (drop (length xs) l))
 
-module _ (l : Lent) (d : Drawing) where
-  sendable-drawn : Sendable (delivered l d .answer) (delivered l d .lists .coordinates) (delivered l d .lists .lengths)
-  unfolding delivered
-  sendable-drawn = go (ltb (length (l .coordinates)) (length (coordinates-of (joined (d .0)))) || ltb (length (l .lengths)) (length (map length (d .0)))) refl
-    where
-      go : (b : Bool) → (ltb (length (l .coordinates)) (length (coordinates-of (joined (d .0)))) || ltb (length (l .lengths)) (length (map length (d .0)))) ≡ b
-          → Sendable (delivered l d .answer) (delivered l d .lists .coordinates) (delivered l d .lists .lengths)
-      go true e = rw e (omega arith)
-      go false e = rw e (front (coordinates-of (joined (d .0))) (l .coordinates) (coordinates-length (joined (d .0))), front (map length (d .0)) (l .lengths) (length-map (d .0) length))
+-- by the answer and the two lists together
+abbrev Sends : Outcome × List ℤ × List ℕ → Type 0
+Sends x = Sendable (x .0) (x .1) (x .2)
 
-pub sendable : (l : Lent) (early : ℕ) (drawing : Try Drawing) → Sendable (answered l early drawing .answer) (answered l early drawing .lists .coordinates) (answered l early drawing .lists .lengths)
-unfolding answered
-sendable l early drawing = go (eqb early 0) refl drawing
-  where
-    go : (b : Bool) → eqb early 0 ≡ b → (drawing : Try Drawing) → Sendable (answered l early drawing .answer) (answered l early drawing .lists .coordinates) (answered l early drawing .lists .lengths)
-    go true e (refuse n) = rw e (omega arith)
-    go true e (ok d) = rw e (sendable-drawn l d)
-    go false e drawing = rw e (omega arith)
+abbrev sent-of : List ℕ → List ℕ → List ℕ → Outcome × List ℤ × List ℕ → Bytes
+sent-of coordinates lengths counts x = sent (x .0) (x .1) (x .2) coordinates lengths counts
 
--- ---- what is sent of it: the end of the definition's `exported`
-abbrev pub exported-by : ℕ → Try Drawing → List ℕ → List ℕ → List ℕ → Bytes
-exported-by early drawing coordinates lengths counts =
+module _ (results : List ℤ) (numbers : List ℕ) where
+  sends : (drawing : Try Drawing) → Sends (handed results numbers drawing)
+  sends (refuse n) = omega arith
+  sends (ok d) = (front (coordinates-of (joined (d .0))) results (coordinates-length (joined (d .0))), front (map length (d .0)) numbers (length-map (d .0) length))
+
+  pub sendable : (drawing : Try Drawing) {o : Outcome} {results′ : List ℤ} {numbers′ : List ℕ} → _≡_ {A = Outcome × List ℤ × List ℕ} (o, results′, numbers′) (handed results numbers drawing) → Sendable o results′ numbers′
+  sendable drawing e = subst Sends (sym e) (sends drawing)
+
+-- the end of the definition's `exported`
+abbrev pub exported-by : Try Drawing → List ℕ → List ℕ → List ℕ → Bytes
+exported-by drawing coordinates lengths counts =
     let give : Drawing → Bytes = λ d.
     let c = words (map bits (coordinates-of (joined (d .0)))) in
     let n = words (map length (d .0)) in
     let k = words (length (d .0) ∷ length (joined (d .0)) ∷ d .1 ∷ []) in
     if ltb (length coordinates) (length c) || ltb (length lengths) (length n) || ltb (length counts) 12 then (11, coordinates, lengths, counts)
     else (0, filled c coordinates, filled n lengths, filled k counts) in
-    let late : Bytes = elim drawing [ refuse n ↦ (n, coordinates, lengths, counts) | ok d ↦ give d ] in
-    if eqb early 0 then late else (early, coordinates, lengths, counts)
+    elim drawing [ refuse n ↦ (n, coordinates, lengths, counts) | ok d ↦ give d ]
 
--- the lists have room for every drawing that is not refused early
-pub record Roomy (l : Lent) (early : ℕ) (drawing : Try Drawing) : Type 0 where
-  pub points : (d : Drawing) → early ≡ 0 → drawing ≡ ok d → length (coordinates-of (joined (d .0))) ≤ length (l .coordinates)
-  pub paths : (d : Drawing) → early ≡ 0 → drawing ≡ ok d → length (map length (d .0)) ≤ length (l .lengths)
-
-module _ (l : Lent) (coordinates lengths counts : List ℕ) where
-  sent-drawn : (d : Drawing) → length (coordinates-of (joined (d .0))) ≤ length (l .coordinates) → length (map length (d .0)) ≤ length (l .lengths)
-      → sent (delivered l d .answer) (delivered l d .lists .coordinates) (delivered l d .lists .lengths) coordinates lengths counts ≡ exported-by 0 (ok d) coordinates lengths counts
-  unfolding delivered
-  sent-drawn d h g =
+module _ (results : List ℤ) (numbers coordinates lengths counts : List ℕ) where
+  sent-drawn : (d : Drawing) → sent-of coordinates lengths counts (handed results numbers (ok d)) ≡ exported-by (ok d) coordinates lengths counts
+  sent-drawn d =
       let cs = coordinates-of (joined (d .0)) in
       let p : 8 * length (joined (d .0)) ≡ length (words (map bits cs)) = omega (arith, words-length (map bits cs), length-map cs bits, coordinates-length (joined (d .0))) in
       let q : 4 * length (d .0) ≡ length (words (map length (d .0))) = omega (arith, words-length (map length (d .0)), length-map (d .0) length) in
-      let r : take (2 * length (joined (d .0))) (filled cs (l .coordinates)) ≡ cs = take-at cs (drop (length cs) (l .coordinates)) _ (coordinates-length (joined (d .0))) in
-      let s : take (length (d .0)) (filled (map length (d .0)) (l .lengths)) ≡ map length (d .0) = take-at (map length (d .0)) (drop (length (map length (d .0))) (l .lengths)) _ (length-map (d .0) length) in
-      rw (le-ltb (length (l .coordinates)) (length cs) h, le-ltb (length (l .lengths)) (length (map length (d .0))) g)
-      (λ i. if ltb (length coordinates) (p i) || ltb (length lengths) (q i) || ltb (length counts) 12 then (11, coordinates, lengths, counts)
-      else (0, filled (words (map bits (r i))) coordinates, filled (words (s i)) lengths, filled (words (length (d .0) ∷ length (joined (d .0)) ∷ d .1 ∷ [])) counts))
+      let r : take (2 * length (joined (d .0))) (filled cs results) ≡ cs = take-at cs (drop (length cs) results) _ (coordinates-length (joined (d .0))) in
+      let s : take (length (d .0)) (filled (map length (d .0)) numbers) ≡ map length (d .0) = take-at (map length (d .0)) (drop (length (map length (d .0))) numbers) _ (length-map (d .0) length) in
+      λ i. if ltb (length coordinates) (p i) || ltb (length lengths) (q i) || ltb (length counts) 12 then (11, coordinates, lengths, counts)
+      else (0, filled (words (map bits (r i))) coordinates, filled (words (s i)) lengths, filled (words (length (d .0) ∷ length (joined (d .0)) ∷ d .1 ∷ [])) counts)
 
-  pub sent-answered : (early : ℕ) (drawing : Try Drawing) → Roomy l early drawing
-      → sent (answered l early drawing .answer) (answered l early drawing .lists .coordinates) (answered l early drawing .lists .lengths) coordinates lengths counts ≡ exported-by early drawing coordinates lengths counts
-  unfolding answered
-  sent-answered early drawing m = go (eqb early 0) refl drawing refl
-    where
-      go : (b : Bool) → eqb early 0 ≡ b → (t : Try Drawing) → drawing ≡ t
-          → sent (answered l early t .answer) (answered l early t .lists .coordinates) (answered l early t .lists .lengths) coordinates lengths counts ≡ exported-by early t coordinates lengths counts
-      go true e (refuse n) f = rw e refl
-      go true e (ok d) f = let z = eqb-true early 0 e in rw e (sent-drawn d (m .points d z f) (m .paths d z f))
-      go false e (refuse n) f = rw e refl
-      go false e (ok d) f = rw e refl
+  sent-handed : (drawing : Try Drawing) → sent-of coordinates lengths counts (handed results numbers drawing) ≡ exported-by drawing coordinates lengths counts
+  sent-handed (refuse n) = refl
+  sent-handed (ok d) = sent-drawn d
+
+  pub sent-is : (drawing : Try Drawing) {o : Outcome} {results′ : List ℤ} {numbers′ : List ℕ} → _≡_ {A = Outcome × List ℤ × List ℕ} (o, results′, numbers′) (handed results numbers drawing)
+      → sent o results′ numbers′ coordinates lengths counts ≡ exported-by drawing coordinates lengths counts
+  sent-is drawing e = ap (sent-of coordinates lengths counts) e ∙ sent-handed drawing

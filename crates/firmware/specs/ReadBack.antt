@@ -4,12 +4,11 @@ use mathlib.Core.Bool.{Bool}
 use mathlib.Core.List.{List, map}
 use lib.IntN.{ℤ}
 use Rattle.plane.specs.declared.rect.Rect64.{Rect64}
-use Rattle.plane.specs.Basics.{if_then_else_, ok}
+use Rattle.plane.specs.Basics.{ok}
 use Rattle.plane.specs.Points.{coordinates-of}
-use Rattle.reference.specs.Entry.{Drawing, joined, early-refusal}
+use Rattle.reference.specs.Entry.{Drawing, joined}
 use Rattle.reference.specs.Exported.{bits, words, read-words}
-use Rattle.firmware.specs.Sending.{drawing-of}
+use Rattle.handheld.specs.Drawn.{clipped}
 
 abbrev pub ReadsBack : Type 0
-ReadsBack = (closed : Bool) (R : Rect64) (path : List ℤ) (d : Drawing) → early-refusal 256 (if closed then 256 else 0) 8208 R path ≡ 0 → drawing-of closed R path ≡ ok d
-    → read-words (words (map bits (coordinates-of (joined (d .0))))) ≡ coordinates-of (joined (d .0))
+ReadsBack = (closed : Bool) (R : Rect64) (path : List ℤ) (d : Drawing) → clipped closed R path ≡ ok d → read-words (words (map bits (coordinates-of (joined (d .0))))) ≡ coordinates-of (joined (d .0))

@@ -1,17 +1,12 @@
 -- Words of the functions that clip and send a result.
-use mathlib.Core.Bool.{Bool, not, _||_}
+use mathlib.Core.Bool.{not, _||_}
 use mathlib.Core.List.{List, [], _∷_, map}
 use Prim.Native.Nat.{ℕ, _*_, _%_, _≤_}
 use lib.ListN.{length, take}
 use lib.Dec.{eqb, ltb}
 use lib.IntN.{ℤ}
-use Rattle.plane.specs.declared.rect.Rect64.{Rect64}
-use Rattle.plane.specs.Basics.{if_then_else_, Try, ok, _>>=_}
-use Rattle.plane.specs.Points.{points-of}
-use Rattle.reference.specs.Walk.{no-room}
-use Rattle.reference.specs.Lines.{execute-lines}
-use Rattle.reference.specs.Clip.{execute}
-use Rattle.reference.specs.Entry.{Drawing, Outcome, refused, drawn, filled}
+use Rattle.plane.specs.Basics.{if_then_else_}
+use Rattle.reference.specs.Entry.{Outcome, refused, drawn, filled}
 use Rattle.reference.specs.Exported.{Bytes, bits, words}
 
 -- what a path's bytes alone are refused for
@@ -29,7 +24,3 @@ sent (drawn paths points turns) results numbers coordinates lengths counts =
 abbrev pub Sendable : Outcome → List ℤ → List ℕ → Type 0
 Sendable (refused n) results numbers = 0 ≤ n
 Sendable (drawn paths points turns) results numbers = (2 * points ≤ length results) × (paths ≤ length numbers)
-
--- a clipper's drawing with W = A = 256; lines have A = 0
-abbrev pub drawing-of : Bool → Rect64 → List ℤ → Try Drawing
-drawing-of closed rect path = if closed then execute (no-room 256) 256 rect (points-of path) else (execute-lines (no-room 256) rect (points-of path) >>= λ paths. ok (paths, 0))

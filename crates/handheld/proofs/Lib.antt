@@ -1,2 +1,4 @@
 -- Laws that the function's proof cites.
 pub mod Calls
+pub mod Bounded
+pub mod HandsOver

@@ -1,2 +1,3 @@
 -- The handheld's calls.
 pub mod Called
+pub mod Drawn

@@ -1,3 +1,4 @@
 -- Laws that the proofs of the functions cite.
+pub mod Fits
 pub mod Lines
 pub mod Given

@@ -1,3 +1,3 @@
 -- What the clip program prints for a line, and words of the functions that write it.
-pub mod Printed
 pub mod Answered
+pub mod Printed

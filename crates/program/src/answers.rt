@@ -1,17 +1,15 @@
-// What is printed for a line, written to the front of a lent list of bytes. A line that the list cannot hold is left out.
-ghost use mathlib.Core.Path.{_≡_};
+// What is printed for a line, written to the front of a list of bytes that has room for every answer.
 ghost use mathlib.Core.Bool.{true, false};
-ghost use mathlib.Core.List.{[], _∷_};
-ghost use Prim.Native.Nat.{_≤_, min};
-ghost use lib.IntN.{pos};
+ghost use Prim.Native.Nat.{_+_, _≤_};
 ghost use lib.ListN.{length, take};
-ghost use Rattle.program.specs.Printed.{Added, Gives, PathEnd, lines-of};
-ghost use Rattle.program.specs.Answered.{First, drawn-lines, path-answer, answer-lines};
+ghost use Rattle.program.specs.Printed.{Gives, Added, Printable, Prints, numbers-answer};
+ghost use Rattle.program.specs.Answered.{First, path-answer, answer};
 ghost use Rattle.text.specs.Asked.{request};
 ghost use Rattle.text.specs.Reading.{unreadable, rectangle};
 ghost use Rattle.text.specs.Written.{Written, coordinates-line};
-ghost use Rattle.text.specs.Printing.{line-of};
+ghost use Rattle.text.specs.Printing.{refusal-line};
 ghost use Rattle.entry.specs.Answers.{number};
+ghost use Rattle.handheld.specs.Drawn.{clipped};
 use entry::answer::Answer;
 use entry::answer::Refusal;
 use handheld::clip;
@@ -30,19 +28,19 @@ pub enum Start {
 
 // `X`, the line and the refusal's number.
 fn write_why(line: i64, why: Refusal, out: &mut [u8]) -> usize
-    ensures { λ r. ⌜ Written (line-of 88 (line ∷ pos (number why) ∷ [])) (now (out .entry)) r (now (out .exit)) ⌝ }
+    ensures { λ r. ⌜ Written (refusal-line line (number why)) (now (out .entry)) r (now (out .exit)) ⌝ }
 {
     write_refusal(line, why.number() as i64, out)
 }
 
 // Line 1 where it cannot be read.
-fn unreadable_first(out: &mut [u8]) -> Start
+fn unreadable_first(out: &mut [u8; 128]) -> Start
     ensures { λ r. ⌜ First unreadable (now (out .entry)) r (now (out .exit)) ⌝ }
 {
     Start::Refused(write_why(1, Refusal::UnreadableLine, out))
 }
 
-fn answer_rectangle(rect: Rect64, out: &mut [u8]) -> Start
+fn answer_rectangle(rect: Rect64, out: &mut [u8; 128]) -> Start
     ensures { λ r. ⌜ First (rectangle rect) (now (out .entry)) r (now (out .exit)) ⌝ }
 {
     if rect.in_limit() {
@@ -52,7 +50,7 @@ fn answer_rectangle(rect: Rect64, out: &mut [u8]) -> Start
 }
 
 // Line 1.
-pub fn answer_first(bytes: &[u8], out: &mut [u8]) -> Start
+pub fn answer_first(bytes: &[u8], out: &mut [u8; 128]) -> Start
     ensures { λ r. ⌜ First (request true (now (bytes .entry))) (now (out .entry)) r (now (out .exit)) ⌝ }
 {
     let mut numbers = [0i64; 1];
@@ -66,56 +64,15 @@ pub fn answer_first(bytes: &[u8], out: &mut [u8]) -> Start
 
 // The line of one path, behind the bytes that are written; answers where it ends.
 fn add_path(closed: bool, line: i64, path: &[i64], out: &mut [u8], end: usize) -> usize
-    requires { ⌜ end ≤ length (now out) ⌝ }
+    requires { ⌜ end + length (coordinates-line closed line (now path)) ≤ length (now out) ⌝ }
     ensures { λ r. ⌜ Added (coordinates-line closed line (now (path .entry))) end (now (out .entry)) r (now (out .exit)) ⌝ }
 {
     let n = write_path(closed, line, path, &mut out[end..]);
     end + n
 }
 
-// Where a path of so many points ends that begins at `at`; at most at the list's end.
-fn path_end(coordinates: &[i64], at: usize, points: u32) -> usize
-    requires { ⌜ at ≤ length (now coordinates) ⌝ }
-    ensures { λ r. ⌜ PathEnd (length (now (coordinates .entry))) at points r ⌝ }
-{
-    let room = coordinates.len() - at;
-    let size = 2 * (points as usize);
-    if room < size {
-        return coordinates.len();
-    }
-    at + size
-}
-
-// The lines of paths: their lengths and, one path behind another, their coordinates.
+// The lines of a result's paths: their lengths and, one path behind another, their coordinates.
 fn write_paths(
-    closed: bool,
-    line: i64,
-    coordinates: &[i64],
-    lengths: &[u32],
-    out: &mut [u8],
-) -> usize
-    ensures { λ r. ⌜ Gives (lines-of closed line (now (lengths .entry)) (now (coordinates .entry))) (now (out .entry)) r (now (out .exit)) ⌝ }
-{
-    let mut i: usize = 0;
-    let mut at: usize = 0;
-    let mut end: usize = 0;
-    while i < lengths.len() {
-        let next = path_end(coordinates, at, lengths[i]);
-        end = add_path(closed, line, &coordinates[at..next], out, end);
-        at = next;
-        i += 1;
-    }
-    end
-}
-
-fn least(a: usize, b: usize) -> usize
-    ensures { λ r. ⌜ r ≡ min a b ⌝ }
-{
-    if a < b { a } else { b }
-}
-
-// The lines of so many paths, as far as they have lengths.
-fn write_counted(
     closed: bool,
     line: i64,
     paths: usize,
@@ -123,39 +80,35 @@ fn write_counted(
     lengths: &[u32],
     out: &mut [u8],
 ) -> usize
-    ensures { λ r. ⌜ Gives (lines-of closed line (take paths (now (lengths .entry))) (now (coordinates .entry))) (now (out .entry)) r (now (out .exit)) ⌝ }
+    requires { ⌜ Printable closed line paths (now coordinates) (now lengths) (now out) ⌝ }
+    ensures { λ r. ⌜ Prints closed line paths (now (coordinates .entry)) (now (lengths .entry)) (now (out .entry)) r (now (out .exit)) ⌝ }
 {
-    let n = least(paths, lengths.len());
-    write_paths(closed, line, coordinates, &lengths[..n], out)
+    let mut i: usize = 0;
+    let mut at: usize = 0;
+    let mut end: usize = 0;
+    while i < paths {
+        let next = at + 2 * (lengths[i] as usize);
+        end = add_path(closed, line, &coordinates[at..next], out, end);
+        at = next;
+        i += 1;
+    }
+    end
 }
 
-// The lines of a result.
-fn write_drawn(
-    closed: bool,
-    line: i64,
-    paths: u32,
-    coordinates: &[i64; 512],
-    lengths: &[u32; 257],
-    out: &mut [u8],
-) -> usize
-    ensures { λ r. ⌜ Gives (lines-of closed line (take paths (now (lengths .entry))) (now (coordinates .entry))) (now (out .entry)) r (now (out .exit)) ⌝ }
-{
-    write_counted(closed, line, paths as usize, coordinates, lengths, out)
-}
-
-// A path of at most 128 points. A result has at most W points and A + 1 paths, so the lists have room for every one.
-fn answer_path(rect: Rect64, closed: bool, line: i64, path: &[i64], out: &mut [u8]) -> usize
-    ensures { λ r. ⌜ Gives (drawn-lines closed line rect (now (path .entry))) (now (out .entry)) r (now (out .exit)) ⌝ }
+// A path of at most 128 points.
+fn answer_path(rect: Rect64, closed: bool, line: i64, path: &[i64], out: &mut [u8; 12288]) -> usize
+    requires { ⌜ length (now path) ≤ 256 ⌝ }
+    ensures { λ r. ⌜ Gives (path-answer closed line (clipped closed rect (now (path .entry)))) (now (out .entry)) r (now (out .exit)) ⌝ }
 {
     let mut coordinates = [0i64; 512];
     let mut lengths = [0u32; 257];
     let answer = clip(closed, rect, path, &mut coordinates, &mut lengths);
     match answer {
         Answer::Refused(why) => write_why(line, why, out),
-        Answer::Drawn(counts) => write_drawn(
+        Answer::Drawn(c) => write_paths(
             closed,
             line,
-            counts.paths,
+            c.paths as usize,
             &coordinates,
             &lengths,
             out,
@@ -170,10 +123,10 @@ fn answer_numbers(
     line: i64,
     numbers: &[i64],
     count: usize,
-    out: &mut [u8],
+    out: &mut [u8; 12288],
 ) -> usize
     requires { ⌜ 256 ≤ length (now numbers) ⌝ }
-    ensures { λ r. ⌜ Gives (path-answer rect line closed count (take count (now (numbers .entry)))) (now (out .entry)) r (now (out .exit)) ⌝ }
+    ensures { λ r. ⌜ Gives (numbers-answer rect line closed count (take count (now (numbers .entry)))) (now (out .entry)) r (now (out .exit)) ⌝ }
 {
     if count % 2 == 1 {
         return write_why(line, Refusal::OddCoordinates, out);
@@ -185,8 +138,8 @@ fn answer_numbers(
 }
 
 // A line behind line 1.
-pub fn answer_line(rect: Rect64, line: i64, bytes: &[u8], out: &mut [u8]) -> usize
-    ensures { λ r. ⌜ Gives (answer-lines rect line (request false (now (bytes .entry)))) (now (out .entry)) r (now (out .exit)) ⌝ }
+pub fn answer_line(rect: Rect64, line: i64, bytes: &[u8], out: &mut [u8; 12288]) -> usize
+    ensures { λ r. ⌜ Gives (answer rect line (request false (now (bytes .entry)))) (now (out .entry)) r (now (out .exit)) ⌝ }
 {
     let mut numbers = [0i64; 2048];
     let request = read_line(false, bytes, &mut numbers);

@@ -22,10 +22,10 @@ pub record PlacesTo (n count rest : ℕ) : Type 0 where
 pub places-start : (n : ℕ) → PlacesTo n 1 n
 places-start n = record { left = 19; sum = refl; goal = refl; one = omega arith }
 
-places-more : (k n : ℕ) → 9 < n → places (suc k) n ≡ suc (places k (n / 10))
+pub places-more : (k n : ℕ) → 9 < n → places (suc k) n ≡ suc (places k (n / 10))
 places-more k n h = let g : n / 10 ≡ 0 → ⊥ = λ q. omega arith in rw (ne-eqb (n / 10) 0 g) refl
 
-places-stop : (k n : ℕ) → n ≤ 9 → places k n ≡ 1
+pub places-stop : (k n : ℕ) → n ≤ 9 → places k n ≡ 1
 places-stop zero n h = refl
 places-stop (suc k) n h = let g : n / 10 ≡ 0 = omega arith in rw (eq-eqb (n / 10) 0 g) refl
 

@@ -8,4 +8,5 @@ pub mod FieldList
 pub mod DigitLoops
 pub mod Lines
 pub mod Puts
+pub mod Widths
 pub mod Compared

@@ -49,7 +49,7 @@ unfolding requests request asked field digits-of
 rules = refl
 
 -- `C,2,1,-50,80`, and `X,3,12`
-printed : path-lines true 2 ((point (negsuc 49) (pos 80) ∷ []) ∷ []) ++ refusal-line 3 12
+printed : path-lines true (pos 2) ((point (negsuc 49) (pos 80) ∷ []) ∷ []) ++ refusal-line (pos 3) 12
     ≡ 67 ∷ 44 ∷ 50 ∷ 44 ∷ 49 ∷ 44 ∷ 45 ∷ 53 ∷ 48 ∷ 44 ∷ 56 ∷ 48 ∷ 10 ∷ 88 ∷ 44 ∷ 51 ∷ 44 ∷ 49 ∷ 50 ∷ 10 ∷ []
 unfolding signed-decimal decimal
 printed = refl

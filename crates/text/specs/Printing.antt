@@ -23,13 +23,13 @@ line-of letter zs = letter ∷ comma-numbers zs ++ 10 ∷ []
 abbrev pub rectangle-line : Rect64 → List ℕ
 rectangle-line r = line-of 82 (r .left ∷ r .top ∷ r .right ∷ r .bottom ∷ [])
 
-abbrev pub refusal-line : ℕ → ℕ → List ℕ
-refusal-line line number = line-of 88 (pos line ∷ pos number ∷ [])
+abbrev pub refusal-line : ℤ → ℕ → List ℕ
+refusal-line line number = line-of 88 (line ∷ pos number ∷ [])
 
 -- C or L, the line, how many points, and their coordinates
-abbrev pub path-line : Bool → ℕ → List Point64 → List ℕ
-path-line closed line p = line-of (if closed then 67 else 76) (pos line ∷ pos (length p) ∷ coordinates-of p)
+abbrev pub path-line : Bool → ℤ → List Point64 → List ℕ
+path-line closed line p = line-of (if closed then 67 else 76) (line ∷ pos (length p) ∷ coordinates-of p)
 
-abbrev pub path-lines : Bool → ℕ → List (List Point64) → List ℕ
+abbrev pub path-lines : Bool → ℤ → List (List Point64) → List ℕ
 path-lines closed line [] = []
 path-lines closed line (p ∷ paths) = path-line closed line p ++ path-lines closed line paths

@@ -23,8 +23,8 @@ abbrev pub coordinates-line : Bool → ℤ → List ℤ → List ℕ
 coordinates-line closed line zs = line-of (if closed then 67 else 76) (line ∷ pos (length zs / 2) ∷ zs)
 
 -- for the coordinates of points it is the line of Printing
-pub points-line : (closed : Bool) (line : ℕ) (p : List Point64) → coordinates-line closed (pos line) (coordinates-of p) ≡ path-line closed line p
-points-line closed line p = ap (λ (n : ℕ). line-of (if closed then 67 else 76) (pos line ∷ pos n ∷ coordinates-of p)) (half p)
+pub points-line : (closed : Bool) (line : ℤ) (p : List Point64) → coordinates-line closed line (coordinates-of p) ≡ path-line closed line p
+points-line closed line p = ap (λ (n : ℕ). line-of (if closed then 67 else 76) (line ∷ pos n ∷ coordinates-of p)) (half p)
   where
     half : (p : List Point64) → length (coordinates-of p) / 2 ≡ length p
     half p = let e : length (coordinates-of p) ≡ length p + length p = twice p in omega arith

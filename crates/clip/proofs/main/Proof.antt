@@ -3,7 +3,7 @@ use mathlib.Core.Path.{_≡_, sym, subst}
 use Prim.Native.Nat.{ℕ, _≤_}
 use lib.Seq.{length-take-le}
 use Rattle.program.specs.declared.answers.Start.{Start}
-use Rattle.program.specs.Answered.{bytes-of}
+use Rattle.program.proofs.Given.{bytes-of, first-within}
 use borrow.Author.Needs.{needs}
 use Rattle.clip.proofs.main.Statement.{statement}
 use Rattle.clip.proofs.main.Tie as tie
@@ -24,9 +24,6 @@ array-share-prefix-line c = search needs
 slice-aggregate-answer-first : tie.Need-slice-aggregate-answer-first
 slice-aggregate-answer-first c = let t : tie.After-take-line = search in sym (length-take-le _ _ (t .take-line .ensures))
 
-slice-aggregate-answer-first-2 : tie.Need-slice-aggregate-answer-first-2
-slice-aggregate-answer-first-2 c = search needs
-
 answer-first-requires : tie.Need-answer-first-requires
 answer-first-requires c κs = search needs
 
@@ -34,10 +31,10 @@ enum-known-start : tie.Need-enum-known-start
 enum-known-start c = search needs
 
 array-share-prefix-out : tie.Need-array-share-prefix-out
-array-share-prefix-out c = let f : tie.After-answer-first = search in let e : tie.After-start = search in within (e .start .given .1) (f .answer-first .ensures .gives .within)
+array-share-prefix-out c = let f : tie.After-answer-first = search in let e : tie.After-start = search in within (e .start .given .1) (first-within (f .answer-first .ensures))
 
 slice-aggregate-write-all : tie.Need-slice-aggregate-write-all
-slice-aggregate-write-all c = let f : tie.After-answer-first = search in let e : tie.After-start = search in sym (length-take-le _ _ (within (e .start .given .1) (f .answer-first .ensures .gives .within)))
+slice-aggregate-write-all c = let f : tie.After-answer-first = search in let e : tie.After-start = search in sym (length-take-le _ _ (within (e .start .given .1) (first-within (f .answer-first .ensures))))
 
 write-all-requires : tie.Need-write-all-requires
 write-all-requires c κs = search needs
@@ -46,10 +43,10 @@ enum-known-start-2 : tie.Need-enum-known-start-2
 enum-known-start-2 c = search needs
 
 array-share-prefix-out-2 : tie.Need-array-share-prefix-out-2
-array-share-prefix-out-2 c = let f : tie.After-answer-first = search in let e : tie.After-start2 = search in within (e .start2 .given .1) (f .answer-first .ensures .gives .within)
+array-share-prefix-out-2 c = let f : tie.After-answer-first = search in let e : tie.After-start2 = search in within (e .start2 .given .1) (first-within (f .answer-first .ensures))
 
 slice-aggregate-write-all-2 : tie.Need-slice-aggregate-write-all-2
-slice-aggregate-write-all-2 c = let f : tie.After-answer-first = search in let e : tie.After-start2 = search in sym (length-take-le _ _ (within (e .start2 .given .1) (f .answer-first .ensures .gives .within)))
+slice-aggregate-write-all-2 c = let f : tie.After-answer-first = search in let e : tie.After-start2 = search in sym (length-take-le _ _ (within (e .start2 .given .1) (first-within (f .answer-first .ensures))))
 
 write-all-requires-2 : tie.Need-write-all-requires-2
 write-all-requires-2 c κs = search needs
@@ -71,7 +68,6 @@ main-spec =
     take-line-requires
     array-share-prefix-line
     slice-aggregate-answer-first
-    slice-aggregate-answer-first-2
     answer-first-requires
     enum-known-start
     array-share-prefix-out

@@ -3,12 +3,13 @@ use mathlib.Core.Path.{_≡_, sym}
 use Prim.Native.Nat.{_-_}
 use lib.ListN.{length}
 use lib.Seq.{length-take-le}
+use Rattle.program.proofs.Lines.{gives-within}
 use borrow.Author.Needs.{needs}
 use Rattle.clip.proofs.print_answers.Statement.{statement}
 use Rattle.clip.proofs.print_answers.Tie as tie
 
 abbrev Inv-loop : tie.InvT-loop
-Inv-loop rect buffer₀ line₀ out₀ cursor₀ number₀ buffer line out cursor number = (length line ≡ 4097) × (length out ≡ 12288)
+Inv-loop rect buffer₀ line₀ out₀ cursor₀ number₀ buffer line out cursor number = length line ≡ 4097
 
 abbrev μ-loop : tie.MeasureT-loop
 μ-loop rect buffer₀ line₀ out₀ cursor₀ number₀ buffer line out cursor number = 9223372036854775808 - number
@@ -34,17 +35,14 @@ array-share-prefix-line c = search needs
 slice-aggregate-answer-line : tie.Need-slice-aggregate-answer-line Inv-loop μ-loop
 slice-aggregate-answer-line c = let t : tie.After-take-line Inv-loop μ-loop = search in sym (length-take-le _ _ (t .take-line .ensures))
 
-slice-aggregate-answer-line-2 : tie.Need-slice-aggregate-answer-line-2 Inv-loop μ-loop
-slice-aggregate-answer-line-2 c = search needs
-
 answer-line-requires : tie.Need-answer-line-requires Inv-loop μ-loop
 answer-line-requires c κs = search needs
 
 array-share-prefix-out : tie.Need-array-share-prefix-out Inv-loop μ-loop
-array-share-prefix-out c = search needs
+array-share-prefix-out c = let t : tie.After-answer-line Inv-loop μ-loop = search in gives-within (t .answer-line .ensures)
 
 slice-aggregate-write-all : tie.Need-slice-aggregate-write-all Inv-loop μ-loop
-slice-aggregate-write-all c = let t : tie.After-answer-line Inv-loop μ-loop = search in sym (length-take-le _ _ (t .answer-line .ensures .within))
+slice-aggregate-write-all c = let t : tie.After-answer-line Inv-loop μ-loop = search in sym (length-take-le _ _ (gives-within (t .answer-line .ensures)))
 
 write-all-requires : tie.Need-write-all-requires Inv-loop μ-loop
 write-all-requires c κs = search needs
@@ -74,7 +72,6 @@ print-answers-spec =
     cast-answer-line
     array-share-prefix-line
     slice-aggregate-answer-line
-    slice-aggregate-answer-line-2
     answer-line-requires
     array-share-prefix-out
     slice-aggregate-write-all

@@ -48,7 +48,12 @@ slice-aggregate-send-2 : tie.Need-slice-aggregate-send-2
 slice-aggregate-send-2 c = search needs
 
 send-requires : tie.Need-send-requires
-send-requires c κs = let s : tie.Start = search in let k : tie.After-clip = search in may-send (s .args .closed) (s .args .rect) _ (replicate 512 (pos 0)) (replicate 257 0) (k .clip .ensures)
+send-requires c κs =
+    let k : tie.After-clip = search in
+    let w : tie.After-read-words = search in
+    let e : tie.Else1 = search in
+    let s : tie.Start = search in
+    may-send (s .args .path .now) (passed e) (s .args .closed) (s .args .rect) _ (replicate 512 (pos 0)) (replicate 257 0) (ap (take (length (s .args .path .now) / 4)) (w .read-words .ensures) ∙ part-read (s .args .path .now) (replicate 256 (pos 0))) (length-replicate {A = ℤ} 512 (pos 0)) (length-replicate {A = ℕ} 257 0) (k .clip .ensures)
 
 same-length : tie.Need-same-length
 same-length c = search needs
@@ -66,12 +71,7 @@ returns-2 c =
     let w : tie.After-read-words = search in
     let e : tie.Else1 = search in
     let s : tie.Start = search in
-    all-exported (s .args .closed) (s .args .rect) _ (replicate 512 (pos 0)) (replicate 257 0) (k .clip .ensures) (s .args .path .now) (s .args .coordinates .now) (s .args .lengths .now) (s .args .counts .now)
-    (passed e)
-    (ap (take (length (s .args .path .now) / 4)) (w .read-words .ensures) ∙ part-read (s .args .path .now) (replicate 256 (pos 0)))
-    (length-replicate {A = ℤ} 512 (pos 0))
-    (length-replicate {A = ℕ} 257 0)
-    (d .send .ensures)
+    all-exported (s .args .path .now) (passed e) (s .args .closed) (s .args .rect) _ (replicate 512 (pos 0)) (replicate 257 0) (ap (take (length (s .args .path .now) / 4)) (w .read-words .ensures) ∙ part-read (s .args .path .now) (replicate 256 (pos 0))) (length-replicate {A = ℤ} 512 (pos 0)) (length-replicate {A = ℕ} 257 0) (k .clip .ensures) (s .args .coordinates .now) (s .args .lengths .now) (s .args .counts .now) (d .send .ensures)
 
 pub clip-bytes-spec : {M : Type 1} → statement M
 clip-bytes-spec =

@@ -29,9 +29,6 @@ enum-told-2 c = search needs
 unreadable-first-requires-2 : tie.Need-unreadable-first-requires-2
 unreadable-first-requires-2 c κs = search needs
 
-same-length : tie.Need-same-length
-same-length c = search needs
-
 returns : tie.Need-returns
 returns c =
     let r : tie.After-read-line = search in
@@ -39,18 +36,12 @@ returns c =
     let w : tie.After-answer-rectangle = search in
     first-by-rectangle (sym (e .request .given .1) ∙ r .read-line .ensures .is) (w .answer-rectangle .ensures)
 
-same-length-2 : tie.Need-same-length-2
-same-length-2 c = search needs
-
 returns-2 : tie.Need-returns-2
 returns-2 c =
     let r : tie.After-read-line = search in
     let e : tie.After-enum-told = search in
     let w : tie.After-unreadable-first = search in
     first-by-path (sym (e .enum-told .given .1) ∙ r .read-line .ensures .is) (w .unreadable-first .ensures)
-
-same-length-3 : tie.Need-same-length-3
-same-length-3 c = search needs
 
 returns-3 : tie.Need-returns-3
 returns-3 c =
@@ -71,9 +62,6 @@ answer-first-spec =
     unreadable-first-requires
     enum-told-2
     unreadable-first-requires-2
-    same-length
     returns
-    same-length-2
     returns-2
-    same-length-3
     returns-3)

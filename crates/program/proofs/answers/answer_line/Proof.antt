@@ -40,9 +40,6 @@ enum-told-2 c = search needs
 write-why-requires-2 : tie.Need-write-why-requires-2
 write-why-requires-2 c κs = search needs
 
-same-length : tie.Need-same-length
-same-length c = search needs
-
 returns : tie.Need-returns
 returns c =
     let s : tie.Start = search in
@@ -52,9 +49,6 @@ returns c =
     let f : SFits w64 (s .args .line) = search needs in
     answer-path (s .args .rect) (s .args .line) (request false (s .args .bytes .now)) (replicate 2048 (pos 0)) (sym (e .request .given .1) ∙ r .read-line .ensures .is) (omega (arith, length-replicate 2048 (pos 0))) (r .read-line .ensures .list-after) (toZ-ofZ f) (w .answer-numbers .ensures)
 
-same-length-2 : tie.Need-same-length-2
-same-length-2 c = search needs
-
 returns-2 : tie.Need-returns-2
 returns-2 c =
     let s : tie.Start = search in
@@ -62,10 +56,7 @@ returns-2 c =
     let e : tie.After-enum-told = search in
     let w : tie.After-write-why = search in
     let f : SFits w64 (s .args .line) = search needs in
-    answer-rectangle (s .args .rect) (s .args .line) (request false (s .args .bytes .now)) (sym (e .enum-told .given .1) ∙ r .read-line .ensures .is) (refused-line 12 (toZ-ofZ f) (w .write-why .ensures))
-
-same-length-3 : tie.Need-same-length-3
-same-length-3 c = search needs
+    answer-rectangle (s .args .rect) (s .args .line) (request false (s .args .bytes .now)) (sym (e .enum-told .given .1) ∙ r .read-line .ensures .is) (refused-line 12 (search needs) (toZ-ofZ f) (w .write-why .ensures))
 
 returns-3 : tie.Need-returns-3
 returns-3 c =
@@ -74,7 +65,7 @@ returns-3 c =
     let e : tie.After-enum-told2 = search in
     let w : tie.After-write-why2 = search in
     let f : SFits w64 (s .args .line) = search needs in
-    answer-nothing (s .args .rect) (s .args .line) (request false (s .args .bytes .now)) (sym (e .enum-told2 .given .1) ∙ r .read-line .ensures .is) (refused-line 12 (toZ-ofZ f) (w .write-why2 .ensures))
+    answer-nothing (s .args .rect) (s .args .line) (request false (s .args .bytes .now)) (sym (e .enum-told2 .given .1) ∙ r .read-line .ensures .is) (refused-line 12 (search needs) (toZ-ofZ f) (w .write-why2 .ensures))
 
 pub answer-line-spec : {M : Type 1} → statement M
 answer-line-spec =
@@ -89,9 +80,6 @@ answer-line-spec =
     write-why-requires
     enum-told-2
     write-why-requires-2
-    same-length
     returns
-    same-length-2
     returns-2
-    same-length-3
     returns-3)

@@ -2,7 +2,8 @@
 use mir.Syntax.{w64}
 use mir.Val.{SFits}
 use mir.Facts.{toZ-ofZ}
-use Rattle.program.proofs.Given.{refused-line, path-refused, path-drawn}
+use Rattle.program.proofs.Lines.{prints-as}
+use Rattle.program.proofs.Given.{refused-line, path-refused, path-printable, path-drawn}
 use borrow.Author.Needs.{needs}
 use Rattle.program.proofs.answers.answer_path.Statement.{statement}
 use Rattle.program.proofs.answers.answer_path.Tie as tie
@@ -25,11 +26,21 @@ write-why-requires c κs = search needs
 enum-known-answer-2 : tie.Need-enum-known-answer-2
 enum-known-answer-2 c = search needs
 
-write-drawn-requires : tie.Need-write-drawn-requires
-write-drawn-requires c κs = search needs
+cast-write-paths : tie.Need-cast-write-paths
+cast-write-paths c = search needs
 
-same-length : tie.Need-same-length
-same-length c = search needs
+slice-aggregate-write-paths : tie.Need-slice-aggregate-write-paths
+slice-aggregate-write-paths c = search needs
+
+slice-aggregate-write-paths-2 : tie.Need-slice-aggregate-write-paths-2
+slice-aggregate-write-paths-2 c = search needs
+
+write-paths-requires : tie.Need-write-paths-requires
+write-paths-requires c κs =
+    let s : tie.Start = search in
+    let k : tie.After-clip = search in
+    let e : tie.After-answer2 = search in
+    path-printable (s .args .closed) _ (s .args .rect) (s .args .path .now) (s .pre) (k .clip .ensures) _ (e .answer2 .given .1) (s .args .out .now) (search needs)
 
 returns : tie.Need-returns
 returns c =
@@ -38,19 +49,16 @@ returns c =
     let e : tie.After-answer = search in
     let w : tie.After-write-why = search in
     let f : SFits w64 (s .args .line) = search needs in
-    path-refused (s .args .closed) (s .args .line) (s .args .rect) (s .args .path .now) (k .clip .ensures) _ (e .answer .given .1) (refused-line _ (toZ-ofZ f) (w .write-why .ensures))
-
-same-length-2 : tie.Need-same-length-2
-same-length-2 c = search needs
+    path-refused (s .args .closed) (s .args .line) (s .args .rect) (s .args .path .now) (s .pre) (k .clip .ensures) _ (e .answer .given .1) (refused-line _ (search needs) (toZ-ofZ f) (w .write-why .ensures))
 
 returns-2 : tie.Need-returns-2
 returns-2 c =
     let s : tie.Start = search in
     let k : tie.After-clip = search in
     let e : tie.After-answer2 = search in
-    let w : tie.After-write-drawn = search in
+    let w : tie.After-write-paths = search in
     let f : SFits w64 (s .args .line) = search needs in
-    path-drawn (s .args .closed) (s .args .line) (s .args .rect) (s .args .path .now) (k .clip .ensures) _ (e .answer2 .given .1) (toZ-ofZ f) (w .write-drawn .ensures)
+    path-drawn (s .args .closed) (s .args .line) (s .args .rect) (s .args .path .now) (s .pre) (k .clip .ensures) _ (e .answer2 .given .1) (s .args .out .now) (search needs) (prints-as (s .args .closed) (toZ-ofZ f) (w .write-paths .ensures))
 
 pub answer-path-spec : {M : Type 1} → statement M
 answer-path-spec =
@@ -62,8 +70,9 @@ answer-path-spec =
     enum-known-answer
     write-why-requires
     enum-known-answer-2
-    write-drawn-requires
-    same-length
+    cast-write-paths
+    slice-aggregate-write-paths
+    slice-aggregate-write-paths-2
+    write-paths-requires
     returns
-    same-length-2
     returns-2)

@@ -11,22 +11,16 @@ in-limit-requires c κs = search needs
 write-rectangle-requires : tie.Need-write-rectangle-requires
 write-rectangle-requires c κs = search needs
 
-same-length : tie.Need-same-length
-same-length c = search needs
-
 returns : tie.Need-returns
 returns c =
     let s : tie.Start = search in
     let l : tie.After-in-limit = search in
     let t : tie.Then1 = search in
     let w : tie.After-write-rectangle = search in
-    first-ready (s .args .rect) (sym (l .in-limit .ensures) ∙ t .if1 .taken) (w .write-rectangle .ensures)
+    first-ready (search needs) (s .args .rect) (sym (l .in-limit .ensures) ∙ t .if1 .taken) (w .write-rectangle .ensures)
 
 write-why-requires : tie.Need-write-why-requires
 write-why-requires c κs = search needs
-
-same-length-2 : tie.Need-same-length-2
-same-length-2 c = search needs
 
 returns-2 : tie.Need-returns-2
 returns-2 c =
@@ -34,7 +28,7 @@ returns-2 c =
     let l : tie.After-in-limit = search in
     let t : tie.Else1 = search in
     let w : tie.After-write-why = search in
-    first-outside (s .args .rect) (sym (l .in-limit .ensures) ∙ t .if1 .left) (w .write-why .ensures)
+    first-outside (search needs) (s .args .rect) (sym (l .in-limit .ensures) ∙ t .if1 .left) (w .write-why .ensures)
 
 pub answer-rectangle-spec : {M : Type 1} → statement M
 answer-rectangle-spec =
@@ -42,8 +36,6 @@ answer-rectangle-spec =
     (tie.spec
     in-limit-requires
     write-rectangle-requires
-    same-length
     returns
     write-why-requires
-    same-length-2
     returns-2)

@@ -7,11 +7,8 @@ use Rattle.program.proofs.answers.unreadable_first.Tie as tie
 write-why-requires : tie.Need-write-why-requires
 write-why-requires c κs = search needs
 
-same-length : tie.Need-same-length
-same-length c = search needs
-
 returns : tie.Need-returns
-returns c = let w : tie.After-write-why = search in first-unreadable (w .write-why .ensures)
+returns c = let w : tie.After-write-why = search in first-unreadable (search needs) (w .write-why .ensures)
 
 pub unreadable-first-spec : {M : Type 1} → statement M
-unreadable-first-spec = tie.close (tie.spec write-why-requires same-length returns)
+unreadable-first-spec = tie.close (tie.spec write-why-requires returns)
