@@ -21,8 +21,8 @@ entry-of-requires c κs =
     let s = c .before .before in
     (s .pre .0 .holds, omega (arith, s .pre .0 .side-in), s .pre .1)
 
-add-t18 : tie.Need-add-t18
-add-t18 c =
+add-t19 : tie.Need-add-t19
+add-t19 c =
     let s = c .before .before .before .before in
     omega (arith, s .pre .1, s .pre .0 .holds .lists (s .args .idx * 2) (omega (arith, s .pre .0 .side-in)), s .pre .0 .holds .room .small)
 
@@ -46,8 +46,8 @@ set-entry-requires c κs =
     let s = c .before .before .before .before .before .before .before .before in
     (s .pre .0 .holds, omega (arith, s .pre .0 .side-in), s .pre .1, λ q. absurd (q refl))
 
-add-t25 : tie.Need-add-t25
-add-t25 c =
+add-t26 : tie.Need-add-t26
+add-t26 c =
     let s = c .before .before .before .before .before .before .before .before .before .before .before in
     omega (arith, s .pre .1, s .pre .0 .holds .lists (s .args .idx * 2) (omega (arith, s .pre .0 .side-in)), s .pre .0 .holds .room .small)
 
@@ -63,19 +63,19 @@ returns-2 c =
     let if2 = c .before .before .before .before .if2 in
     turn-stub (s .pre .0) (s .args .i) (s .args .j) (entry-of .result) (entry-of .ensures) (if1 .left) (sym (is-stub .ensures) ∙ if2 .taken) (c .before .before .set-entry .ensures)
 
+mul-len : tie.Need-mul-len
+mul-len c = search needs
+
+array-read-len : tie.Need-array-read-len
+array-read-len c = search needs
+
 seek-requires : tie.Need-seek-requires
 seek-requires c κs =
-    let s = c .before .before .before .before .before .before .before .before in
-    (s .pre .0 .holds, omega (arith, s .pre .0 .side-in))
+    let s = c .before .before .before .before .before .before .before .before .before in
+    (s .pre .0 .holds, omega (arith, s .pre .0 .side-in), refl)
 
-mul-if3 : tie.Need-mul-if3
-mul-if3 c = search needs
-
-array-read-if3 : tie.Need-array-read-if3
-array-read-if3 c = search needs
-
-add-t31 : tie.Need-add-t31
-add-t31 c =
+add-t32 : tie.Need-add-t32
+add-t32 c =
     let s = c .before .before .before .before .before .before .before .before .before .before .before in
     omega (arith, s .pre .1, s .pre .0 .holds .lists (s .args .idx * 2) (omega (arith, s .pre .0 .side-in)), s .pre .0 .holds .room .small)
 
@@ -89,7 +89,7 @@ returns-3 c =
     let if1 = c .before .before .before .before .before .before .before .if1 in
     let is-stub = c .before .before .before .before .before .is-stub in
     let if2 = c .before .before .before .before .if2 in
-    let seek = c .before .before .seek in
+    let seek = c .before .seek in
     turn-end (s .pre .0) (s .args .i) (s .args .j) (entry-of .result) (entry-of .ensures) (if1 .left) (sym (is-stub .ensures) ∙ if2 .left) (seek .result) (seek .ensures) (c .if3 .taken)
 
 entry-of-requires-2 : tie.Need-entry-of-requires-2
@@ -102,7 +102,7 @@ four-of-requires c κs =
     let s = c .before .before .before .before .before .before .before .before .before .before .before .before .before .before in
     let entry-of = c .before .before .before .before .before .before .before .before .before .before .before .entry-of in
     let if1 = c .before .before .before .before .before .before .before .before .before .before .if1 in
-    let seek = c .before .before .before .before .before .seek in
+    let seek = c .before .before .before .before .seek in
     let entry-of2 = c .before .entry-of2 in
     let if3 = c .before .before .before .if3 in
     (s .pre .0 .holds, root-in (s .pre .0 .holds) (s .args .idx * 2) (s .args .i) (entry-of .result) (omega (arith, s .pre .0 .side-in)) (s .pre .1) (entry-of .ensures) (if1 .left), live-root (s .pre .0 .holds) (s .args .idx * 2 + 1) (s .args .j) (seek .result) (entry-of2 .result) (omega (arith, s .pre .0 .side-in)) (seek .ensures) (if3 .left) (entry-of2 .ensures))
@@ -118,7 +118,7 @@ rejoin-requires c κs =
     let if3 = c .before .before .before .before .before .before .before .if3 in
     let entry-of = c .before .before .before .before .before .before .before .before .before .before .before .before .before .before .before .entry-of in
     let if1 = c .before .before .before .before .before .before .before .before .before .before .before .before .before .before .if1 in
-    let seek = c .before .before .before .before .before .before .before .before .before .seek in
+    let seek = c .before .before .before .before .before .before .before .before .seek in
     let entry-of2 = c .before .before .before .before .before .entry-of2 in
     let four-of = c .before .before .before .four-of in
     record { drawn = s .pre .0 .drawn; holds = s .pre .0 .holds; spare = s .pre .0 .spare; side-in = s .pre .0 .side-in; i-in = s .pre .1; j-in = if3 .left; root1-in = root-in (s .pre .0 .holds) (s .args .idx * 2) (s .args .i) (entry-of .result) (omega (arith, s .pre .0 .side-in)) (s .pre .1) (entry-of .ensures) (if1 .left); root2-in = live-root (s .pre .0 .holds) (s .args .idx * 2 + 1) (s .args .j) (seek .result) (entry-of2 .result) (omega (arith, s .pre .0 .side-in)) (seek .ensures) (if3 .left) (entry-of2 .ensures); four-in = four-of .ensures .within }
@@ -133,7 +133,7 @@ returns-4 c =
     let if1 = c .before .before .before .before .before .before .before .before .before .before .before .before .before .before .before .before .before .if1 in
     let is-stub = c .before .before .before .before .before .before .before .before .before .before .before .before .before .before .before .is-stub in
     let if2 = c .before .before .before .before .before .before .before .before .before .before .before .before .before .before .if2 in
-    let seek = c .before .before .before .before .before .before .before .before .before .before .before .before .seek in
+    let seek = c .before .before .before .before .before .before .before .before .before .before .before .seek in
     let if3 = c .before .before .before .before .before .before .before .before .before .before .if3 in
     let entry-of2 = c .before .before .before .before .before .before .before .before .entry-of2 in
     let four-of = c .before .before .before .before .before .before .four-of in
@@ -142,8 +142,8 @@ returns-4 c =
     let rejoin = c .before .before .rejoin in
     turn-rejoined (s .pre .0) (s .args .i) (s .args .j) (entry-of .result) (entry-of .ensures) (if1 .left) (sym (is-stub .ensures) ∙ if2 .left) (seek .result) (seek .ensures) (if3 .left) (entry-of2 .result) (entry-of2 .ensures) (four-of .result) (four-of .ensures) (sym (overlap .ensures) ∙ if4 .taken) (rejoin .result) (rejoin .ensures)
 
-add-t14 : tie.Need-add-t14
-add-t14 c =
+add-t29 : tie.Need-add-t29
+add-t29 c =
     let if3 = c .before .before .before .before .before .before .if3 in
     let s = c .before .before .before .before .before .before .before .before .before .before .before .before .before .before .before .before .before in
     omega (arith, if3 .left, s .pre .0 .holds .lists (s .args .idx * 2 + 1) (omega (arith, s .pre .0 .side-in)), s .pre .0 .holds .room .small)
@@ -158,7 +158,7 @@ returns-5 c =
     let if1 = c .before .before .before .before .before .before .before .before .before .before .before .before .before .if1 in
     let is-stub = c .before .before .before .before .before .before .before .before .before .before .before .is-stub in
     let if2 = c .before .before .before .before .before .before .before .before .before .before .if2 in
-    let seek = c .before .before .before .before .before .before .before .before .seek in
+    let seek = c .before .before .before .before .before .before .before .seek in
     let if3 = c .before .before .before .before .before .before .if3 in
     let entry-of2 = c .before .before .before .before .entry-of2 in
     let four-of = c .before .before .four-of in
@@ -172,18 +172,18 @@ one-turn-spec =
     mul-ccw
     add-ccw
     entry-of-requires
-    add-t18
+    add-t19
     same-length
     returns
     is-stub-requires
     set-entry-requires
-    add-t25
+    add-t26
     same-length-2
     returns-2
+    mul-len
+    array-read-len
     seek-requires
-    mul-if3
-    array-read-if3
-    add-t31
+    add-t32
     same-length-3
     returns-3
     entry-of-requires-2
@@ -192,6 +192,6 @@ one-turn-spec =
     rejoin-requires
     same-length-4
     returns-4
-    add-t14
+    add-t29
     same-length-5
     returns-5)
