@@ -55,6 +55,7 @@ pub mod Regrouping
 pub mod Space
 pub mod Settling
 pub mod Tidying
+pub mod Idling
 pub mod Building
 pub mod Later
 pub mod EdgeLists

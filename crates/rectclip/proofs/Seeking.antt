@@ -1,16 +1,17 @@
 -- The inner loop of `tidy_edges`, over the work list, stops where the definition's does. Assumes nothing.
 use mathlib.Core.Path.{_≡_, refl, sym, _∙_, ap}
-use mathlib.Core.Bool.{Bool, true, false}
+use mathlib.Core.Bool.{Bool, true, false, not, _&&_}
 use mathlib.Core.List.{List}
 use Prim.Native.Nat.{ℕ, _+_, _-_, _<_, _≤_}
 use native.Mathlib.Omega.{arith}
 use native.Mathlib.Numerals.{add-one}
 use lib.ListN.{length, getD, drop, drop-of-length-le}
 use lib.Seq.{drop-cons}
-use borrow.Author.Tests.{eq-eqb}
+use lib.Dec.{eqb, ltb}
+use borrow.Author.Tests.{eq-eqb, ltb-true, ltb-false}
 use Rattle.plane.specs.Basics.{none}
 use Rattle.reference.specs.Arena.{Arena, edge-list}
-use Rattle.reference.specs.Tidy.{seek}
+use Rattle.reference.specs.Tidy.{is-stub, seek}
 use Rattle.rectclip.specs.declared.arena.Sizes.{Sizes}
 use Rattle.rectclip.specs.Arenas.{arena-at, Holds}
 use Rattle.rectclip.specs.Turns.{is-live, Sought}
@@ -29,11 +30,30 @@ seek-end : (a : Arena) (l : List ℕ) (j : ℕ) → length l ≤ j → seek a j 
 unfolding seek
 seek-end a l j h = rw (drop-of-length-le l h) refl
 
-live-some : (a : Arena) (x : ℕ) → is-live a x ≡ true → x ≡ none → ⊥
+pub live-some : (a : Arena) (x : ℕ) → is-live a x ≡ true → x ≡ none → ⊥
 live-some a x e q =
     let t : is-live a x ≡ false = rw (eq-eqb x none q) refl in
     let z : _≡_ {A = ℕ} 0 1 = cc in
     omega arith
+
+pub live-ring : (a : Arena) (x : ℕ) → is-live a x ≡ true → is-stub a x ≡ false
+live-ring a x e = go (eqb x none) (is-stub a x) e
+  where
+    go : (b c : Bool) → not b && not c ≡ true → c ≡ false
+    go b false e = refl
+    go false true e = sym e
+    go true true e = sym e
+
+-- what is sought from where it stops is there
+pub sought-there : {a : Arena} {e j k : ℕ} → Sought a e j k → Sought a e k k
+sought-there {a} {e} {j} {k} z = record { is = sym (go (ltb k (length l)) refl); live = z .live }
+  where
+    l : List ℕ
+    l = edge-list a e
+
+    go : (b : Bool) → ltb k (length l) ≡ b → seek a k (drop k l) ≡ k
+    go true t = seek-here a l k (ltb-true k (length l) t) (z .live (ltb-true k (length l) t))
+    go false t = seek-end a l k (ltb-false k (length l) t)
 
 pub record SeekingOn (m : List ℕ) (s : Sizes) (e from j : ℕ) : Type 0 where
   pub goal : seek (arena-at m s) j (drop j (edge-list (arena-at m s) e)) ≡ seek (arena-at m s) from (drop from (edge-list (arena-at m s) e))
@@ -52,7 +72,7 @@ module _ {m : List ℕ} {s : Sizes} {e from j : ℕ} (I : SeekingOn m s e from j
     pub seeking-found : b ≡ true → Sought (arena-at m s) e from j
     seeking-found t = record {
       is = sym (seek-here (arena-at m s) (edge-list (arena-at m s) e) j inside (live ∙ t)) ∙ I .goal;
-      live = λ _. live-some (arena-at m s) (getD (edge-list (arena-at m s) e) j none) (live ∙ t);
+      live = λ _. live ∙ t;
     }
 
   pub seeking-end : getD (s .lens) e 0 ≤ j → Sought (arena-at m s) e from j

@@ -1,5 +1,5 @@
 -- The turns of a side over the work list are the definition's, and refusal 10 comes where it does. Assumes nothing.
-use mathlib.Core.Path.{_≡_, refl, sym, _∙_, ap}
+use mathlib.Core.Path.{_≡_, refl, sym, _∙_, ap, subst}
 use mathlib.Core.Bool.{Bool, true, false}
 use mathlib.Core.List.{List}
 use Prim.Native.Nat.{ℕ, zero, suc, _+_, _*_, _-_, _<_, _≤_}
@@ -18,7 +18,7 @@ use Rattle.rectclip.specs.declared.settle.Turn.{Turn}
 use Rattle.rectclip.specs.declared.tidy.Tidied.{Tidied}
 use Rattle.rectclip.specs.Arenas.{arena-at, Becomes, Spare}
 use Rattle.rectclip.specs.Stored.{points-in, Drawn}
-use Rattle.rectclip.specs.Turns.{Whole, Turning, Allowing, answer, TidiedAs, Between, tidied-all}
+use Rattle.rectclip.specs.Turns.{Turned, Whole, Turning, Idled, Allowing, answer, TidiedAs, Between, tidied-all}
 use Rattle.rectclip.proofs.Spare.{list-length, spare-slots}
 use Rattle.rectclip.proofs.Becoming.{becomes-same, becomes-renamed, then-becomes}
 use Rattle.rectclip.proofs.Settling.{turn-at}
@@ -30,7 +30,7 @@ module _ (pts : List Point64) (idx : ℕ) where
   turns-stop zero taken t e = rw e refl
   turns-stop (suc left) taken t e = rw e refl
 
-  turns-on : (left taken : ℕ) (t : reference.Turn) → ltb (t .i) (length (edge-list (t .arena) (idx * 2))) ≡ true
+  pub turns-on : (left taken : ℕ) (t : reference.Turn) → ltb (t .i) (length (edge-list (t .arena) (idx * 2))) ≡ true
       → turns-from pts idx left (taken + 1) (one-turn pts idx (t .arena) (t .i) (t .j)) ≡ turns-from pts idx (suc left) taken t
   unfolding turns-from
   turns-on left taken t e = rw e refl
@@ -40,68 +40,92 @@ module _ (pts : List Point64) (idx : ℕ) where
   unfolding turns-from
   turns-out taken t b e = rw e refl
 
--- ---- at the head of the loop
-pub record Tidying (store : List ℤ) (idx A : ℕ) (s : Sizes) (turns : ℕ) (m₀ m : List ℕ) (at : Turn) (taken left : ℕ) : Type 0 where
-  pub goal : turns-from (points-in store (s .nodes)) idx left taken (turn (arena-at m (at .s)) (at .i) (at .j)) ≡ turns-from (points-in store (s .nodes)) idx (A - turns) turns (turn (arena-at m₀ s) 0 0)
+-- what a turn hands to the next, as the definition has it
+pub turned-is : {m m′ : List ℕ} {s : Sizes} {t : Turn} {b : reference.Turn} → Turned m m′ s t b → turn (arena-at m′ (t .s)) (t .i) (t .j) ≡ b
+turned-is k = λ q. turn (k .becomes .is q) (k .i q) (k .j q)
+
+-- ---- at the head of the loop, and after the idle turns
+pub record Tidying (store : List ℤ) (idx A : ℕ) (s : Sizes) (turns : ℕ) (m₀ m : List ℕ) (at : Turn) (left : ℕ) : Type 0 where
+  pub goal : turns-from (points-in store (s .nodes)) idx left (A - left) (turn (arena-at m (at .s)) (at .i) (at .j)) ≡ turns-from (points-in store (s .nodes)) idx (A - turns) turns (turn (arena-at m₀ s) 0 0)
   pub so-far : Becomes m₀ m s (at .s) (arena-at m (at .s))
   pub spare : Spare (s .slots) left (arena-at m (at .s))
-  pub sum : taken + left ≡ A
+  pub left-in : left ≤ A
 
-pub tidying-start : {store : List ℤ} {m : List ℕ} {s : Sizes} {idx A turns : ℕ} → Allowing store m s idx A turns → Tidying store idx A s turns m m (turn-at s 0 0) turns (A - turns)
-tidying-start x = record { goal = refl; so-far = becomes-same (x .holds); spare = x .spare; sum = omega (arith, x .turns-in) }
+pub tidying-start : {store : List ℤ} {m : List ℕ} {s : Sizes} {idx A turns : ℕ} → Allowing store m s idx A turns → Tidying store idx A s turns m m (turn-at s 0 0) (A - turns)
+tidying-start {store} {m} {s} {idx} {A} {turns} x = record {
+  goal = let e : A - (A - turns) ≡ turns = omega (arith, x .turns-in) in rw e refl;
+  so-far = becomes-same (x .holds);
+  spare = x .spare;
+  left-in = omega arith;
+}
 
-module _ {store : List ℤ} {idx A : ℕ} {s : Sizes} {turns : ℕ} {m₀ m : List ℕ} {at : Turn} {taken left : ℕ} (I : Tidying store idx A s turns m₀ m at taken left) (x : Allowing store m₀ s idx A turns) where
+module _ {store : List ℤ} {idx A : ℕ} {s : Sizes} {turns : ℕ} {m₀ m : List ℕ} {at : Turn} {left : ℕ} (I : Tidying store idx A s turns m₀ m at left) (x : Allowing store m₀ s idx A turns) where
   len : length (edge-list (arena-at m (at .s)) (idx * 2)) ≡ getD (at .s .lens) (idx * 2) 0
   len = list-length m (at .s) (I .so-far .holds .eight) (idx * 2) (omega (arith, x .side-in))
+
+  pub tidying-may : 0 < left → Turning store m (at .s) idx
+  tidying-may z = record {
+    drawn = rw (I .so-far .nodes) (x .drawn);
+    holds = I .so-far .holds;
+    spare = spare-slots (I .so-far .slots) (record { results = omega (arith, I .spare .results); lists = λ e h. omega (arith, I .spare .lists e h) });
+    side-in = x .side-in;
+  }
+
+  pub tidying-idle : {left′ i j : ℕ} → Idled (points-in store (at .s .nodes)) idx (arena-at m (at .s)) left (at .i) (at .j) left′ i j → Tidying store idx A s turns m₀ m (turn-at (at .s) i j) left′
+  tidying-idle {left′} {i} {j} k =
+      let on =
+      subst (λ (n : ℕ). turns-from (points-in store n) idx left′ (A - left′) (turn (arena-at m (at .s)) i j) ≡ turns-from (points-in store n) idx left (A - left) (turn (arena-at m (at .s)) (at .i) (at .j)))
+      (I .so-far .nodes) (k .same A (I .left-in)) in
+      record {
+        goal = on ∙ I .goal;
+        so-far = I .so-far;
+        spare = record { results = omega (arith, I .spare .results, k .fewer); lists = λ e h. omega (arith, I .spare .lists e h, k .fewer) };
+        left-in = omega (arith, I .left-in, k .fewer);
+      }
+
+  ended : (full : Bool) → answer m (record { full = full; turns = A - left; s = at .s }) ≡ turns-from (points-in store (s .nodes)) idx left (A - left) (turn (arena-at m (at .s)) (at .i) (at .j))
+      → TidiedAs m₀ m s A (record { full = full; turns = A - left; s = at .s }) (turns-from (points-in store (s .nodes)) idx (A - turns) turns (turn (arena-at m₀ s) 0 0))
+  ended full e = record {
+    is = e ∙ I .goal;
+    becomes = I .so-far;
+    spare = let e : A - (A - left) ≡ left = omega (arith, I .left-in) in rw e (I .spare);
+    turns-in = omega arith;
+  }
 
   module _ (b : Bool) (w : b ≡ ltb (at .i) (getD (at .s .lens) (idx * 2) 0)) where
     test : ltb (at .i) (length (edge-list (arena-at m (at .s)) (idx * 2))) ≡ b
     test = ap (ltb (at .i)) len ∙ sym w
 
-    pub tidying-stop : b ≡ false → TidiedAs m₀ m s A (record { full = false; turns = taken; s = at .s }) (turns-from (points-in store (s .nodes)) idx (A - turns) turns (turn (arena-at m₀ s) 0 0))
-    tidying-stop t = record {
-      is = turns-stop (points-in store (s .nodes)) idx left taken (turn (arena-at m (at .s)) (at .i) (at .j)) (test ∙ t) ∙ I .goal;
-      becomes = I .so-far;
-      spare = let e : A - taken ≡ left = omega (arith, I .sum) in rw e (I .spare);
-      turns-in = omega (arith, I .sum);
-    }
+    pub tidying-stop : b ≡ false → TidiedAs m₀ m s A (record { full = false; turns = A - left; s = at .s }) (turns-from (points-in store (s .nodes)) idx (A - turns) turns (turn (arena-at m₀ s) 0 0))
+    tidying-stop t = ended false (turns-stop (points-in store (s .nodes)) idx left (A - left) (turn (arena-at m (at .s)) (at .i) (at .j)) (test ∙ t))
 
-    pub tidying-out : left ≤ 0 → TidiedAs m₀ m s A (record { full = b; turns = taken; s = at .s }) (turns-from (points-in store (s .nodes)) idx (A - turns) turns (turn (arena-at m₀ s) 0 0))
+    pub tidying-out : left ≤ 0 → TidiedAs m₀ m s A (record { full = b; turns = A; s = at .s }) (turns-from (points-in store (s .nodes)) idx (A - turns) turns (turn (arena-at m₀ s) 0 0))
     tidying-out h =
-        let z : left ≡ 0 = omega arith in
-        record {
-          is = turns-out (points-in store (s .nodes)) idx taken (turn (arena-at m (at .s)) (at .i) (at .j)) b test ∙ (rw z at (I .goal));
-          becomes = I .so-far;
-          spare = let e : A - taken ≡ left = omega (arith, I .sum) in rw e (I .spare);
-          turns-in = omega (arith, I .sum);
-        }
+        let z : 0 ≡ left = omega arith in
+        let all : A - left ≡ A = omega arith in
+        let t = turn (arena-at m (at .s)) (at .i) (at .j) in
+        rw all at (ended b (turns-out (points-in store (s .nodes)) idx (A - left) t b test ∙ ap (λ (n : ℕ). turns-from (points-in store (s .nodes)) idx n (A - left) t) z))
+
+    pub tidying-full : b ≡ true → left ≡ 0 → TidiedAs m₀ m s A (record { full = true; turns = A; s = at .s }) (turns-from (points-in store (s .nodes)) idx (A - turns) turns (turn (arena-at m₀ s) 0 0))
+    tidying-full t z = rw t at (tidying-out (omega arith))
 
     module _ (z : 0 < left) (t : b ≡ true) where
-      pub tidying-may : Turning store m (at .s) idx
-      tidying-may = record {
-        drawn = rw (I .so-far .nodes) (x .drawn);
-        holds = I .so-far .holds;
-        spare = spare-slots (I .so-far .slots) (record { results = omega (arith, I .spare .results); lists = λ e h. omega (arith, I .spare .lists e h) });
-        side-in = x .side-in;
-      }
-
       pub tidying-in : at .i < getD (at .s .lens) (idx * 2) 0
       tidying-in = ltb-true (at .i) (getD (at .s .lens) (idx * 2) 0) (sym w ∙ t)
 
-      pub tidying-again : {m′ : List ℕ} (u : Turn) → Whole m m′ (at .s) u (one-turn (points-in store (at .s .nodes)) idx (arena-at m (at .s)) (at .i) (at .j))
-          → Tidying store idx A s turns m₀ m′ u (taken + 1) (left - 1)
+      pub tidying-again : {m′ : List ℕ} (u : Turn) → Whole m m′ (at .s) u (one-turn (points-in store (at .s .nodes)) idx (arena-at m (at .s)) (at .i) (at .j)) → Tidying store idx A s turns m₀ m′ u (left - 1)
       tidying-again {m′} u k =
           let one : suc (left - 1) ≡ left = omega arith in
+          let taken : A - (left - 1) ≡ A - left + 1 = omega (arith, I .left-in) in
           let n = I .so-far .nodes in
           let now = one-turn (points-in store (s .nodes)) idx (arena-at m (at .s)) (at .i) (at .j) in
           let same : one-turn (points-in store (at .s .nodes)) idx (arena-at m (at .s)) (at .i) (at .j) ≡ now = ap (λ (c : ℕ). one-turn (points-in store c) idx (arena-at m (at .s)) (at .i) (at .j)) n in
-          let next : turn (arena-at m′ (u .s)) (u .i) (u .j) ≡ now = (λ q. turn (k .turned .becomes .is q) (k .turned .i q) (k .turned .j q)) ∙ same in
           record {
-            goal = ap (turns-from (points-in store (s .nodes)) idx (left - 1) (taken + 1)) next
-                ∙ turns-on (points-in store (s .nodes)) idx (left - 1) taken (turn (arena-at m (at .s)) (at .i) (at .j)) (test ∙ t) ∙ rw one (I .goal);
+            goal = (λ q. turns-from (points-in store (s .nodes)) idx (left - 1) (taken q) ((turned-is (k .turned) ∙ same) q))
+                ∙ turns-on (points-in store (s .nodes)) idx (left - 1) (A - left) (turn (arena-at m (at .s)) (at .i) (at .j)) (test ∙ t) ∙ rw one (I .goal);
             so-far = becomes-renamed (then-becomes (λ c a. one-turn (points-in store c) idx a (at .i) (at .j) .arena) (I .so-far) (k .turned .becomes)) (sym (k .turned .becomes .is ∙ ap (λ c. c .arena) same));
             spare = rw (k .turned .becomes .is) (k .space (s .slots) (left - 1) (rw one (I .spare)));
-            sum = omega (arith, I .sum);
+            left-in = omega (arith, I .left-in);
           }
 
 -- ---- a side without a counter-clockwise entry takes no turn

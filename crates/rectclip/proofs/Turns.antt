@@ -24,6 +24,7 @@ use Rattle.rectclip.proofs.Spare.{by-test, list-length}
 use Rattle.rectclip.proofs.Space.{space-less, space-fewer, space-entry, space-joined, space-split, space-roots}
 use Rattle.rectclip.proofs.Becoming.{becomes-left, becomes-same, becomes-renamed, then-becomes}
 use Rattle.rectclip.proofs.Settling.{turn-at}
+use Rattle.rectclip.proofs.Seeking.{live-some}
 
 -- ---- regroup
 module _ {m m′ : List ℕ} {s : Sizes} (idx : ℕ) (f : Four) (b : Bool) where
@@ -108,7 +109,9 @@ pub root-in : {m : List ℕ} {s : Sizes} → Holds m s → (e i r : ℕ) → e <
 root-in {m} {s} h e i r l k g q = omega (arith, g, h .valid .entry-in e i l (omega (arith, list-length m s (h .eight) e l)) (λ w. q (g ∙ w)))
 
 pub live-root : {m : List ℕ} {s : Sizes} → Holds m s → (e j k r : ℕ) → e < 8 → Sought (arena-at m s) e j k → k < getD (s .lens) e 0 → r ≡ getD (edge-list (arena-at m s) e) k none → r < s .nodes
-live-root {m} {s} h e j k r l z i g = root-in h e k r l i g (λ w. z .live (omega (arith, list-length m s (h .eight) e l)) (sym g ∙ w))
+live-root {m} {s} h e j k r l z i g =
+    let there = z .live (omega (arith, list-length m s (h .eight) e l)) in
+    root-in h e k r l i g (λ w. live-some (arena-at m s) (getD (edge-list (arena-at m s) e) k none) there (sym g ∙ w))
 
 -- the definition's turn over what it reads: the entry r1, the position k, the entry there, and the four nodes
 turn-by : List Point64 → ℕ → Arena → (i r1 k r2 : ℕ) → reference.Four → reference.Turn
@@ -119,6 +122,15 @@ turn-by pts idx a i r1 k r2 f =
     else if leb (length (edge-list a (idx * 2 + 1))) k then turn a (i + 1) 0
     else if not (overlap pts (is-horz idx) f) then turn a i (k + 1)
     else joined
+
+-- a turn depends on j by where `seek` stops alone
+pub turn-sought : (pts : List Point64) (idx : ℕ) (a : Arena) (i j k : ℕ) → seek a j (drop j (edge-list a (idx * 2 + 1))) ≡ seek a k (drop k (edge-list a (idx * 2 + 1)))
+    → one-turn pts idx a i j ≡ one-turn pts idx a i k
+unfolding one-turn turn-by
+turn-sought pts idx a i j k e = λ q.
+    let r1 = getD (edge-list a (idx * 2)) i none in
+    let r2 = getD (edge-list a (idx * 2 + 1)) (e q) none in
+    turn-by pts idx a i r1 (e q) r2 (four-of (cw-is-toward-larger idx) a r1 r2)
 
 module _ {store : List ℤ} {m : List ℕ} {s : Sizes} {idx : ℕ} (x : Turning store m s idx) (i j r1 : ℕ) (e1 : r1 ≡ getD (edge-list (arena-at m s) (idx * 2)) i none) where
   -- k is where `seek` stops, r2 the entry there

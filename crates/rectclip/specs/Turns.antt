@@ -1,6 +1,6 @@
 -- What the functions of `tidy_edges` ask and leave, in the definition's words.
 use mathlib.Core.Path.{_≡_}
-use mathlib.Core.Bool.{Bool, not, _&&_}
+use mathlib.Core.Bool.{Bool, true, not, _&&_}
 use mathlib.Core.List.{List}
 use Prim.Native.Nat.{ℕ, suc, _+_, _*_, _-_, _<_, _≤_}
 use lib.IntN.{ℤ}
@@ -9,7 +9,7 @@ use lib.Dec.{eqb}
 use Rattle.plane.specs.declared.point.Point64.{Point64}
 use Rattle.plane.specs.Basics.{if_then_else_, none, push, Try, refuse, ok, _>>=_}
 use Rattle.reference.specs.Arena.{Arena, owner-of, edge-list, set-entry, set-result, set-results, set-new-owner}
-use Rattle.reference.specs.Tidy.{is-stub, seek, tidy-edges}
+use Rattle.reference.specs.Tidy.{is-stub, seek, turn, turns-from, tidy-edges}
 use Rattle.reference.specs.Tidy as reference
 use Rattle.rectclip.specs.declared.arena.Sizes.{Sizes}
 use Rattle.rectclip.specs.declared.regroup.Four.{Four}
@@ -25,7 +25,7 @@ is-live a x = not (eqb x none) && not (is-stub a x)
 -- the first position from j on whose entry is one, or the list's length and more
 pub record Sought (a : Arena) (e j r : ℕ) : Type 0 where
   pub is : r ≡ seek a j (drop j (edge-list a e))
-  pub live : r < length (edge-list a e) → getD (edge-list a e) r none ≡ none → ⊥
+  pub live : r < length (edge-list a e) → is-live a (getD (edge-list a e) r none) ≡ true
 
 -- the four nodes as the definition has them
 abbrev pub four : Four → reference.Four
@@ -129,6 +129,19 @@ pub record Turning (store : List ℤ) (m : List ℕ) (s : Sizes) (idx : ℕ) : T
   pub holds : Holds m s
   pub spare : Spare (s .slots) 1 (arena-at m s)
   pub side-in : idx < 4
+
+-- the turns at entry i of the clockwise list may be taken: it is live, and the other list has len entries
+pub record Idling (store : List ℤ) (m : List ℕ) (s : Sizes) (idx i len : ℕ) : Type 0 where
+  pub turning : Turning store m s idx
+  pub i-in : i < getD (s .lens) (idx * 2) 0
+  pub live : is-live (arena-at m s) (getD (edge-list (arena-at m s) (idx * 2)) i none) ≡ true
+  pub len-is : len ≡ getD (s .lens) (idx * 2 + 1) 0
+
+-- What idle turns leave, which change no list: the definition's turns from i′ and j′ on, with left′ left of an allowance A, are those
+-- from i and j on, with `left` left.
+pub record Idled (pts : List Point64) (idx : ℕ) (a : Arena) (left i j left′ i′ j′ : ℕ) : Type 0 where
+  pub same : (A : ℕ) → left ≤ A → turns-from pts idx left′ (A - left′) (turn a i′ j′) ≡ turns-from pts idx left (A - left) (turn a i j)
+  pub fewer : left′ ≤ left
 
 -- the turns of side idx may be taken, as many as are left of the allowance
 pub record Allowing (store : List ℤ) (m : List ℕ) (s : Sizes) (idx A turns : ℕ) : Type 0 where

@@ -6,6 +6,7 @@ mod closed;
 mod corners;
 mod deliver;
 mod edges;
+mod idle;
 mod line_walk;
 pub mod lines;
 mod lists;

@@ -5,13 +5,15 @@ ghost use lib.Dec.{ltb};
 ghost use lib.ListN.{length, getD};
 ghost use Rattle.plane.specs.Basics.{if_then_else_};
 ghost use Rattle.reference.specs.Tidy.{rejoin, one-turn, turn, turns-from, tidy-edges};
-ghost use Rattle.rectclip.specs.Arenas.{arena-at, Holds, Marked};
+ghost use Rattle.rectclip.specs.Arenas.{arena-at};
 ghost use Rattle.rectclip.specs.Stored.{points-in};
-ghost use Rattle.rectclip.specs.Turns.{is-live, Sought, four, Whole, Rejoining, Turning, Allowing, Between, answer, TidiedAs, next-side, tidied-all};
+ghost use Rattle.rectclip.specs.Turns.{four, Whole, Rejoining, Turning, Allowing, Between, answer, TidiedAs, next-side, tidied-all};
 use crate::arena::Sizes;
 use crate::arena::entry_of;
 use crate::arena::owner_of;
 use crate::arena::set_entry;
+use crate::idle::idle_turns;
+use crate::idle::seek;
 use crate::lists::NONE;
 use crate::regroup::Four;
 use crate::regroup::cw_is_toward_larger;
@@ -28,34 +30,6 @@ pub(crate) struct Tidied {
     pub full: bool,
     pub turns: usize,
     pub s: Sizes,
-}
-
-// Whether an entry is a node whose ring is no stub.
-pub(crate) fn is_live(work: &[u32], s: Sizes, x: usize) -> bool
-    requires { ⌜ Holds (now work) s × Marked (s .nodes) x ⌝ }
-    ensures { λ r. ⌜ r ≡ is-live (arena-at (now (work .entry)) s) x ⌝ }
-{
-    if x == NONE {
-        return false;
-    }
-    !is_stub(work, s, x)
-}
-
-// The inner `while`: the first position from `from` on of list `e` whose entry is live.
-pub(crate) fn seek(work: &[u32], s: Sizes, e: usize, from: usize) -> usize
-    requires { ⌜ Holds (now work) s × (e < 8) ⌝ }
-    ensures { λ r. ⌜ Sought (arena-at (now (work .entry)) s) e from r ⌝ }
-{
-    let lens = s.lens;
-    let len = lens[e];
-    let mut j = from;
-    while j < len {
-        if is_live(work, s, entry_of(work, s, e, j)) {
-            return j;
-        }
-        j += 1;
-    }
-    j
 }
 
 // The one or the other.
@@ -112,9 +86,10 @@ pub(crate) fn one_turn(
         set_entry(work, s, cw, i, NONE);
         return Turn { s, i: i + 1, j: 0 };
     }
-    let k = seek(work, s, ccw, j);
     let lens = s.lens;
-    if lens[ccw] <= k {
+    let len = lens[ccw];
+    let k = seek(work, s, ccw, len, j);
+    if len <= k {
         return Turn { s, i: i + 1, j: 0 };
     }
     let root2 = entry_of(work, s, ccw, k);
@@ -135,7 +110,7 @@ pub(crate) fn is_left(s: Sizes, idx: usize, i: usize) -> bool
     i < lens[cw]
 }
 
-// The `while`: turns are taken until the clockwise list is worked off or the allowance is.
+// The `while`: turns are taken until the clockwise list is worked off or the allowance is, idle ones together.
 pub(crate) fn take_turns(
     store: &[i64],
     work: &mut [u32],
@@ -148,27 +123,33 @@ pub(crate) fn take_turns(
     ensures { λ r. ⌜ TidiedAs (now (work .entry)) (now (work .exit)) s allowance r (turns-from (points-in (now (store .entry)) (s .nodes)) idx (allowance - turns) turns (turn (arena-at (now (work .entry)) s) 0 0)) ⌝ }
 {
     let mut at = Turn { s, i: 0, j: 0 };
-    let mut taken = turns;
     let mut left = allowance - turns;
     while left > 0 {
         let sizes = at.s;
-        let i = at.i;
-        let j = at.j;
+        let place = idle_turns(store, work, sizes, idx, at.i, at.j, left);
+        let i = place.i;
+        left = place.left;
         if !is_left(sizes, idx, i) {
             return Tidied {
                 full: false,
-                turns: taken,
+                turns: allowance - left,
                 s: sizes,
             };
         }
-        at = one_turn(store, work, sizes, idx, i, j);
-        taken += 1;
+        if left == 0 {
+            return Tidied {
+                full: true,
+                turns: allowance,
+                s: sizes,
+            };
+        }
+        at = one_turn(store, work, sizes, idx, i, place.j);
         left -= 1;
     }
     let sizes = at.s;
     Tidied {
         full: is_left(sizes, idx, at.i),
-        turns: taken,
+        turns: allowance,
         s: sizes,
     }
 }

@@ -1,9 +1,9 @@
--- `rectclip::tidy::is_live` meets its contract.
+-- `rectclip::idle::is_live` meets its contract.
 use borrow.Author.Tests.{eq-eqb, ne-eqb}
 use Rattle.plane.specs.Basics.{none}
 use mathlib.Core.Path.{refl}
-use Rattle.rectclip.proofs.tidy.is_live.Statement.{statement}
-use Rattle.rectclip.proofs.tidy.is_live.Tie as tie
+use Rattle.rectclip.proofs.idle.is_live.Statement.{statement}
+use Rattle.rectclip.proofs.idle.is_live.Tie as tie
 
 returns : tie.Need-returns
 returns c = rw (eq-eqb (c .before .before .args .x) none (c .if1 .taken)) refl
