@@ -46,7 +46,7 @@ pub record Printable (closed : Bool) (line : ℤ) (count : ℕ) (coordinates : L
 pub record Prints (closed : Bool) (line : ℤ) (count : ℕ) (coordinates : List ℤ) (lengths out : List ℕ) (r : ℕ) (after : List ℕ) : Type 0 where
   pub is : (paths : List (List Point64)) → Holds closed line count coordinates lengths out paths → Gives (path-lines closed line paths) out r after
 
--- a path of so many numbers, of which a list has the first 256 or more
+-- a path of `count` numbers; zs has all of them where they are at most 256
 abbrev pub numbers-answer : Rect64 → ℤ → Bool → ℕ → List ℤ → List ℕ
 numbers-answer rect line closed count zs =
     if eqb (count % 2) 1 then refusal-line line 1
