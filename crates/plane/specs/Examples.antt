@@ -23,10 +23,13 @@ found =
     get-intersection (rect (pos 1) (pos 0) (pos 100) (pos 100)) (point (pos 0) (pos 10)) (point (pos 49) (pos 10)) Left ∷
     -- 8: through the left-top corner
     get-intersection square (point (pos 10) (negsuc 9)) (point (negsuc 9) (pos 10)) Top ∷
-    -- 10: along the top edge
-    get-intersection square (point (pos 50) (pos 0)) (point (negsuc 4) (pos 0)) Top ∷
     []
 
-searches : found ≡ Found (point (pos 0) (pos 10)) Left ∷ Found (point (pos 0) (pos 0)) Top ∷ Missed ∷ []
+searches : found ≡ Found (point (pos 0) (pos 10)) Left ∷ Found (point (pos 0) (pos 0)) Top ∷ []
 unfolding found cross-product-sign determinant numerator fraction workingOf crossingOf pointAt at-end get-segment-intersection edge-intersection side-intersection get-intersection ofInt lib.Ieee.add sub mul div neg toSigned eq le
 searches = refl
+
+-- 10: along the top edge
+overlap : get-intersection square (point (pos 50) (pos 0)) (point (negsuc 4) (pos 0)) Top ≡ Missed
+unfolding cross-product-sign get-segment-intersection edge-intersection side-intersection get-intersection
+overlap = refl
