@@ -32,6 +32,15 @@ pub(crate) struct Tidied {
     pub s: Sizes,
 }
 
+impl Tidied {
+    // The fields in their order.
+    pub(crate) fn new(full: bool, turns: usize, s: Sizes) -> Tidied
+        ensures { λ r. ⌜ r ≡ record { full = full; turns = turns; s = s } ⌝ }
+    {
+        Tidied { full, turns, s }
+    }
+}
+
 // The one or the other.
 pub(crate) fn choose(first: bool, a: usize, b: usize) -> usize
     ensures { λ r. ⌜ r ≡ (if first then a else b) ⌝ }
@@ -130,28 +139,16 @@ pub(crate) fn take_turns(
         let i = place.i;
         left = place.left;
         if !is_left(sizes, idx, i) {
-            return Tidied {
-                full: false,
-                turns: allowance - left,
-                s: sizes,
-            };
+            return Tidied::new(false, allowance - left, sizes);
         }
         if left == 0 {
-            return Tidied {
-                full: true,
-                turns: allowance,
-                s: sizes,
-            };
+            return Tidied::new(true, allowance, sizes);
         }
         at = one_turn(store, work, sizes, idx, i, place.j);
         left -= 1;
     }
     let sizes = at.s;
-    Tidied {
-        full: is_left(sizes, idx, at.i),
-        turns: allowance,
-        s: sizes,
-    }
+    Tidied::new(is_left(sizes, idx, at.i), allowance, sizes)
 }
 
 // `tidy_edges` of side `idx`, with `turns` of the allowance taken.

@@ -1,18 +1,13 @@
 -- `firmware::clip_bytes` meets its contract: what is sent is the definition's. Assumes nothing.
 use borrow.Author.Needs.{needs}
-use mathlib.Core.Path.{_≡_, sym, _∙_, ap}
+use mathlib.Core.Path.{sym, _∙_, ap}
 use Prim.Native.Nat.{ℕ, _/_}
 use lib.IntN.{ℤ, pos}
 use lib.ListN.{length, take, replicate, length-replicate}
 use lib.Seq.{length-take-le}
-use Rattle.firmware.specs.Sending.{path-refusal}
 use Rattle.firmware.proofs.Exporting.{refused-early, room-to-read, read-fits, part-read, may-send, all-exported}
 use Rattle.firmware.proofs.clip_bytes.Statement.{statement}
 use Rattle.firmware.proofs.clip_bytes.Tie as tie
-
--- a path that its bytes let through
-passed : (c : tie.Else1) → path-refusal (c .before .before .before .before .before .before .args .path .now) ≡ 0
-passed c = sym (c .before .path-refusal .ensures) ∙ c .if1 .left
 
 path-refusal-requires : tie.Need-path-refusal-requires
 path-refusal-requires c κs = search needs
@@ -24,7 +19,11 @@ slice-aggregate-read-words : tie.Need-slice-aggregate-read-words
 slice-aggregate-read-words c = search needs
 
 read-words-requires : tie.Need-read-words-requires
-read-words-requires c κs = let s : tie.Start = search in room-to-read (s .args .path .now) (passed (c .before))
+read-words-requires c κs =
+    let else1 : tie.Else1 = search in
+    let p : tie.After-path-refusal = search in
+    let s : tie.Start = search in
+    room-to-read (s .args .path .now) (sym (p .path-refusal .ensures) ∙ else1 .if1 .left)
 
 array-share-prefix-points : tie.Need-array-share-prefix-points
 array-share-prefix-points c = let s : tie.Start = search in let w : tie.After-read-words = search in read-fits (s .args .path .now) (replicate 256 (pos 0)) (w .read-words .ensures)
@@ -51,9 +50,10 @@ send-requires : tie.Need-send-requires
 send-requires c κs =
     let k : tie.After-clip = search in
     let w : tie.After-read-words = search in
-    let e : tie.Else1 = search in
+    let else1 : tie.Else1 = search in
+    let p : tie.After-path-refusal = search in
     let s : tie.Start = search in
-    may-send (s .args .path .now) (passed e) (s .args .closed) (s .args .rect) _ (replicate 512 (pos 0)) (replicate 257 0) (ap (take (length (s .args .path .now) / 4)) (w .read-words .ensures) ∙ part-read (s .args .path .now) (replicate 256 (pos 0))) (length-replicate {A = ℤ} 512 (pos 0)) (length-replicate {A = ℕ} 257 0) (k .clip .ensures)
+    may-send (s .args .path .now) (sym (p .path-refusal .ensures) ∙ else1 .if1 .left) (s .args .closed) (s .args .rect) _ (replicate 512 (pos 0)) (replicate 257 0) (ap (take (length (s .args .path .now) / 4)) (w .read-words .ensures) ∙ part-read (s .args .path .now) (replicate 256 (pos 0))) (length-replicate {A = ℤ} 512 (pos 0)) (length-replicate {A = ℕ} 257 0) (k .clip .ensures)
 
 same-length : tie.Need-same-length
 same-length c = search needs
@@ -69,9 +69,10 @@ returns-2 c =
     let d : tie.After-send = search in
     let k : tie.After-clip = search in
     let w : tie.After-read-words = search in
-    let e : tie.Else1 = search in
+    let else1 : tie.Else1 = search in
+    let p : tie.After-path-refusal = search in
     let s : tie.Start = search in
-    all-exported (s .args .path .now) (passed e) (s .args .closed) (s .args .rect) _ (replicate 512 (pos 0)) (replicate 257 0) (ap (take (length (s .args .path .now) / 4)) (w .read-words .ensures) ∙ part-read (s .args .path .now) (replicate 256 (pos 0))) (length-replicate {A = ℤ} 512 (pos 0)) (length-replicate {A = ℕ} 257 0) (k .clip .ensures) (s .args .coordinates .now) (s .args .lengths .now) (s .args .counts .now) (d .send .ensures)
+    all-exported (s .args .path .now) (sym (p .path-refusal .ensures) ∙ else1 .if1 .left) (s .args .closed) (s .args .rect) _ (replicate 512 (pos 0)) (replicate 257 0) (ap (take (length (s .args .path .now) / 4)) (w .read-words .ensures) ∙ part-read (s .args .path .now) (replicate 256 (pos 0))) (length-replicate {A = ℤ} 512 (pos 0)) (length-replicate {A = ℕ} 257 0) (k .clip .ensures) (s .args .coordinates .now) (s .args .lengths .now) (s .args .counts .now) (d .send .ensures)
 
 pub clip-bytes-spec : {M : Type 1} → statement M
 clip-bytes-spec =

@@ -8,7 +8,10 @@ enum-known-answer : tie.Need-enum-known-answer
 enum-known-answer c = search needs
 
 send-drawing-requires : tie.Need-send-drawing-requires
-send-drawing-requires c κs = let s : tie.Start = search in rw (c .before .before .before .before .answer .given .1) at (s .pre)
+send-drawing-requires c κs =
+    let a : tie.After-answer = search in
+    let s : tie.Start = search in
+    rw (a .answer .given .1) at (s .pre)
 
 enum-known-answer-2 : tie.Need-enum-known-answer-2
 enum-known-answer-2 c = search needs
@@ -26,7 +29,10 @@ same-length-3 : tie.Need-same-length-3
 same-length-3 c = search needs
 
 returns : tie.Need-returns
-returns c = let s : tie.Start = search in let d : tie.After-send-drawing = search in rw (c .before .before .before .before .before .before .before .before .before .before .before .answer .given .1) (d .send-drawing .ensures)
+returns c =
+    let d : tie.After-send-drawing = search in
+    let a : tie.After-answer = search in
+    rw (a .answer .given .1) (d .send-drawing .ensures)
 
 returns-2 : tie.Need-returns-2
 returns-2 c = let s : tie.Start = search in rw (c .before .before .answer2 .given .1) (ap (λ n. (n, s .args .coordinates .now, s .args .lengths .now, s .args .counts .now)) (c .number .ensures))

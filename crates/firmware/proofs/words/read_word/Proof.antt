@@ -44,7 +44,10 @@ mul-signed : tie.Need-mul-signed
 mul-signed c = record { fits = omega (arith, c .wide3 .ensures .small) }
 
 add-signed : tie.Need-add-signed
-add-signed c = record { fits = omega (arith, c .wide3 .ensures .small, c .before .before .wide2 .ensures .small, c .before .before .before .before .wide .ensures .small) }
+add-signed c =
+    let w2 : tie.After-wide2 = search in
+    let w : tie.After-wide = search in
+    record { fits = omega (arith, c .wide3 .ensures .small, w2 .wide2 .ensures .small, w .wide .ensures .small) }
 
 add-wide-3 : tie.Need-add-wide-3
 add-wide-3 c = search needs
@@ -59,16 +62,27 @@ mul-signed-2 : tie.Need-mul-signed-2
 mul-signed-2 c = record { fits = omega (arith, c .wide4 .ensures .small) }
 
 add-signed-2 : tie.Need-add-signed-2
-add-signed-2 c = record { fits = omega (arith, c .wide4 .ensures .small, c .before .before .wide3 .ensures .small, c .before .before .before .before .wide2 .ensures .small, c .before .before .before .before .before .before .wide .ensures .small) }
+add-signed-2 c =
+    let w3 : tie.After-wide3 = search in
+    let w2 : tie.After-wide2 = search in
+    let w : tie.After-wide = search in
+    record { fits = omega (arith, c .wide4 .ensures .small, w3 .wide3 .ensures .small, w2 .wide2 .ensures .small, w .wide .ensures .small) }
 
 signed-requires : tie.Need-signed-requires
-signed-requires c κs = omega (arith, c .wide4 .ensures .small, c .before .before .wide3 .ensures .small, c .before .before .before .before .wide2 .ensures .small, c .before .before .before .before .before .before .wide .ensures .small)
+signed-requires c κs =
+    let w3 : tie.After-wide3 = search in
+    let w2 : tie.After-wide2 = search in
+    let w : tie.After-wide = search in
+    omega (arith, c .wide4 .ensures .small, w3 .wide3 .ensures .small, w2 .wide2 .ensures .small, w .wide .ensures .small)
 
 returns : tie.Need-returns
 returns c =
     let f : SFits w64 (c .signed .result) = search needs in
-    let d : tie.After-wide4 = c .before in
-    toZ-ofZ f ∙ c .signed .ensures ∙ (λ i. signed (d .before .before .before .before .before .before .wide .ensures .is i + 256 * d .before .before .before .before .wide2 .ensures .is i + 65536 * d .before .before .wide3 .ensures .is i + 16777216 * d .wide4 .ensures .is i))
+    let w4 : tie.After-wide4 = search in
+    let w3 : tie.After-wide3 = search in
+    let w2 : tie.After-wide2 = search in
+    let w : tie.After-wide = search in
+    toZ-ofZ f ∙ c .signed .ensures ∙ (λ i. signed (w .wide .ensures .is i + 256 * w2 .wide2 .ensures .is i + 65536 * w3 .wide3 .ensures .is i + 16777216 * w4 .wide4 .ensures .is i))
 
 pub read-word-spec : {M : Type 1} → statement M
 read-word-spec =

@@ -1,6 +1,5 @@
 -- `rectclip::idle::idle_along` meets its contract: each pass is a turn of the definition that changes nothing.
 use native.Mathlib.Omega.{arith}
-use borrow.Author.Needs.{needs}
 use mathlib.Core.Path.{sym, _∙_}
 use Prim.Native.Nat.{_+_, _*_}
 use Rattle.rectclip.specs.Arenas.{arena-at}
@@ -37,50 +36,72 @@ loop-holds c = idled-start
 
 seek-requires : tie.Need-seek-requires Inv-loop μ-loop
 seek-requires c κs =
-    let s = c .before .before .before .before in
+    let s : tie.Start Inv-loop μ-loop = search in
     (s .pre .turning .holds, omega (arith, s .pre .turning .side-in), s .pre .len-is)
 
 returns : tie.Need-returns Inv-loop μ-loop
-returns c = idled-sought (c .before .before .before .loop .inv) (c .before .seek .ensures)
+returns c =
+    let sought : tie.After-seek Inv-loop μ-loop = search in
+    let at : tie.At-loop Inv-loop μ-loop = search in
+    idled-sought (at .loop .inv) (sought .seek .ensures)
 
 entry-of-requires-2 : tie.Need-entry-of-requires-2 Inv-loop μ-loop
 entry-of-requires-2 c κs =
-    let s = c .before .before .before .before .before .before in
+    let s : tie.Start Inv-loop μ-loop = search in
     (s .pre .turning .holds, omega (arith, s .pre .turning .side-in), omega (arith, c .if1 .left, s .pre .len-is))
 
 four-of-requires : tie.Need-four-of-requires Inv-loop μ-loop
 four-of-requires c κs =
-    let s = c .before .before .before .before .before .before .before in
-    let entry-of = c .before .before .before .before .before .entry-of in
-    let entry-of2 = c .entry-of2 in
-    let seek = c .before .before .seek in
-    let root1-in = live-entry (s .pre) (entry-of .result) (entry-of .ensures) in
-    let root2-in = live-root (s .pre .turning .holds) (s .args .idx * 2 + 1) (c .before .before .before .before .loop .j) (seek .result) (entry-of2 .result) (omega (arith, s .pre .turning .side-in)) (seek .ensures) (omega (arith, c .before .if1 .left, s .pre .len-is)) (entry-of2 .ensures) in
+    let e2 : tie.After-entry-of2 Inv-loop μ-loop = search in
+    let else1 : tie.Else1 Inv-loop μ-loop = search in
+    let sought : tie.After-seek Inv-loop μ-loop = search in
+    let at : tie.At-loop Inv-loop μ-loop = search in
+    let e : tie.After-entry-of Inv-loop μ-loop = search in
+    let s : tie.Start Inv-loop μ-loop = search in
+    let root1-in = live-entry (s .pre) (e .entry-of .result) (e .entry-of .ensures) in
+    let root2-in = live-root (s .pre .turning .holds) (s .args .idx * 2 + 1) (at .loop .j) (sought .seek .result) (e2 .entry-of2 .result) (omega (arith, s .pre .turning .side-in)) (sought .seek .ensures) (omega (arith, else1 .if1 .left, s .pre .len-is)) (e2 .entry-of2 .ensures) in
     (s .pre .turning .holds, root1-in, root2-in)
 
 overlap-requires : tie.Need-overlap-requires Inv-loop μ-loop
-overlap-requires c κs = (c .before .before .before .before .before .before .before .before .pre .turning .drawn, c .four-of .ensures .within)
+overlap-requires c κs =
+    let s : tie.Start Inv-loop μ-loop = search in
+    (s .pre .turning .drawn, c .four-of .ensures .within)
 
 returns-2 : tie.Need-returns-2 Inv-loop μ-loop
-returns-2 c = idled-sought (c .before .before .before .before .before .before .before .loop .inv) (c .before .before .before .before .before .seek .ensures)
+returns-2 c =
+    let sought : tie.After-seek Inv-loop μ-loop = search in
+    let at : tie.At-loop Inv-loop μ-loop = search in
+    idled-sought (at .loop .inv) (sought .seek .ensures)
 
 add-j : tie.Need-add-j Inv-loop μ-loop
-add-j c = omega (arith, c .before .before .before .before .if1 .left, c .before .before .before .before .before .before .before .before .before .before .fits .len)
+add-j c =
+    let else1 : tie.Else1 Inv-loop μ-loop = search in
+    let s : tie.Start Inv-loop μ-loop = search in
+    omega (arith, else1 .if1 .left, s .fits .len)
 
 sub-left : tie.Need-sub-left Inv-loop μ-loop
-sub-left c = omega (arith, c .before .before .before .before .before .before .loop-test .taken)
+sub-left c =
+    let inl : tie.In-loop Inv-loop μ-loop = search in
+    omega (arith, inl .loop-test .taken)
 
 loop-less : tie.Need-loop-less Inv-loop μ-loop
-loop-less c = omega (arith, c .before .before .before .before .before .before .loop-test .taken)
+loop-less c =
+    let inl : tie.In-loop Inv-loop μ-loop = search in
+    omega (arith, inl .loop-test .taken)
 
 loop-again : tie.Need-loop-again Inv-loop μ-loop
 loop-again c =
-    let s = c .before .before .before .before .before .before .before .before .before .before in
-    let entry-of = c .before .before .before .before .before .before .before .before .entry-of in
-    let entry-of2 = c .before .before .before .entry-of2 in
-    let seek = c .before .before .before .before .before .seek in
-    let four-of = c .before .before .four-of in
-    idled-apart (s .pre) (idled-sought (c .before .before .before .before .before .before .before .loop .inv) (seek .ensures)) (c .before .before .before .before .before .before .loop-test .taken) (entry-of .result) (entry-of .ensures) (c .before .before .before .before .if1 .left) (sought-there (seek .ensures)) (entry-of2 .result) (entry-of2 .ensures) (four-of .result) (four-of .ensures) (sym (c .before .overlap .ensures) ∙ c .if2 .left)
+    let o : tie.After-overlap Inv-loop μ-loop = search in
+    let f : tie.After-four-of Inv-loop μ-loop = search in
+    let e2 : tie.After-entry-of2 Inv-loop μ-loop = search in
+    let else1 : tie.Else1 Inv-loop μ-loop = search in
+    let sought : tie.After-seek Inv-loop μ-loop = search in
+    let inl : tie.In-loop Inv-loop μ-loop = search in
+    let at : tie.At-loop Inv-loop μ-loop = search in
+    let e : tie.After-entry-of Inv-loop μ-loop = search in
+    let s : tie.Start Inv-loop μ-loop = search in
+    let on = idled-sought (at .loop .inv) (sought .seek .ensures) in
+    idled-apart (s .pre) on (inl .loop-test .taken) (e .entry-of .result) (e .entry-of .ensures) (else1 .if1 .left) (sought-there (sought .seek .ensures)) (e2 .entry-of2 .result) (e2 .entry-of2 .ensures) (f .four-of .result) (f .four-of .ensures) (sym (o .overlap .ensures) ∙ c .if2 .left)
 
 returns-3 : tie.Need-returns-3 Inv-loop μ-loop
 returns-3 c = c .before .loop .inv

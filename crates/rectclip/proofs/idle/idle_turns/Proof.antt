@@ -1,12 +1,10 @@
 -- `rectclip::idle::idle_turns` meets its contract: the turns at one clockwise entry, and one turn to the next entry.
 use native.Mathlib.Omega.{arith}
-use mathlib.Core.Path.{sym, _∙_, ap}
-use Prim.Native.Nat.{_+_, _*_, _-_}
-use lib.ListN.{getD}
+use Prim.Native.Nat.{_*_, _-_}
 use borrow.Author.Tests.{not-false}
 use Rattle.rectclip.specs.Arenas.{arena-at}
 use Rattle.rectclip.specs.Stored.{points-in}
-use Rattle.rectclip.specs.Turns.{is-live, Idling, Idled}
+use Rattle.rectclip.specs.Turns.{Idled}
 use Rattle.rectclip.proofs.Turns.{root-in}
 use Rattle.rectclip.proofs.Idling.{may-idle, idled-start, idled-on, idled-end}
 use Rattle.rectclip.proofs.idle.idle_turns.Statement.{statement}
@@ -41,46 +39,68 @@ loop-holds c = idled-start
 
 entry-of-requires : tie.Need-entry-of-requires Inv-loop μ-loop
 entry-of-requires c κs =
-    let s = c .before .before .before .before in
+    let s : tie.Start Inv-loop μ-loop = search in
     (s .pre .holds, omega (arith, s .pre .side-in), c .loop-test .taken)
 
 is-live-requires : tie.Need-is-live-requires Inv-loop μ-loop
 is-live-requires c κs =
-    let s = c .before .before .before .before .before in
-    let entry-of = c .entry-of in
-    (s .pre .holds, root-in (s .pre .holds) (s .args .idx * 2) (c .before .before .loop .i) (entry-of .result) (omega (arith, s .pre .side-in)) (c .before .loop-test .taken) (entry-of .ensures))
+    let e : tie.After-entry-of Inv-loop μ-loop = search in
+    let inl : tie.In-loop Inv-loop μ-loop = search in
+    let at : tie.At-loop Inv-loop μ-loop = search in
+    let s : tie.Start Inv-loop μ-loop = search in
+    (s .pre .holds, root-in (s .pre .holds) (s .args .idx * 2) (at .loop .i) (e .entry-of .result) (omega (arith, s .pre .side-in)) (inl .loop-test .taken) (e .entry-of .ensures))
 
 returns : tie.Need-returns Inv-loop μ-loop
-returns c = c .before .before .before .before .loop .inv
+returns c =
+    let at : tie.At-loop Inv-loop μ-loop = search in
+    at .loop .inv
 
 idle-along-requires : tie.Need-idle-along-requires Inv-loop μ-loop
 idle-along-requires c κs =
-    let entry-of = c .before .before .entry-of in
-    let is-live = c .before .is-live in
-    may-idle (c .before .before .before .before .before .before .before .pre) (c .before .before .before .loop-test .taken) (entry-of .result) (entry-of .ensures) (is-live .result) (is-live .ensures) (not-false (is-live .result) (c .if1 .left))
+    let live : tie.After-is-live Inv-loop μ-loop = search in
+    let e : tie.After-entry-of Inv-loop μ-loop = search in
+    let inl : tie.In-loop Inv-loop μ-loop = search in
+    let s : tie.Start Inv-loop μ-loop = search in
+    may-idle (s .pre) (inl .loop-test .taken) (e .entry-of .result) (e .entry-of .ensures) (live .is-live .result) (live .is-live .ensures) (not-false (live .is-live .result) (c .if1 .left))
 
 returns-2 : tie.Need-returns-2 Inv-loop μ-loop
-returns-2 c = idled-on (c .before .before .before .before .before .before .loop .inv) (c .before .idle-along .ensures)
+returns-2 c =
+    let along : tie.After-idle-along Inv-loop μ-loop = search in
+    let at : tie.At-loop Inv-loop μ-loop = search in
+    idled-on (at .loop .inv) (along .idle-along .ensures)
 
 returns-3 : tie.Need-returns-3 Inv-loop μ-loop
-returns-3 c = idled-on (c .before .before .before .before .before .before .before .loop .inv) (c .before .before .idle-along .ensures)
+returns-3 c =
+    let along : tie.After-idle-along Inv-loop μ-loop = search in
+    let at : tie.At-loop Inv-loop μ-loop = search in
+    idled-on (at .loop .inv) (along .idle-along .ensures)
 
 add-i : tie.Need-add-i Inv-loop μ-loop
-add-i c = omega (arith, c .before .before .before .before .before .before .loop-test .taken, c .before .before .before .before .before .before .before .before .before .before .pre .holds .lists (c .before .before .before .before .before .before .before .before .before .before .args .idx * 2) (omega (arith, c .before .before .before .before .before .before .before .before .before .before .pre .side-in)), c .before .before .before .before .before .before .before .before .before .before .pre .holds .room .small)
+add-i c =
+    let inl : tie.In-loop Inv-loop μ-loop = search in
+    let s : tie.Start Inv-loop μ-loop = search in
+    omega (arith, inl .loop-test .taken, s .pre .holds .lists (s .args .idx * 2) (omega (arith, s .pre .side-in)), s .pre .holds .room .small)
 
 sub-left : tie.Need-sub-left Inv-loop μ-loop
 sub-left c = omega (arith, c .if3 .left)
 
 loop-less : tie.Need-loop-less Inv-loop μ-loop
-loop-less c = omega (arith, c .before .before .before .before .before .before .loop-test .taken)
+loop-less c =
+    let inl : tie.In-loop Inv-loop μ-loop = search in
+    omega (arith, inl .loop-test .taken)
 
 loop-again : tie.Need-loop-again Inv-loop μ-loop
 loop-again c =
-    let entry-of = c .before .before .before .before .before .entry-of in
-    let is-live = c .before .before .before .before .is-live in
-    let along = c .before .before .idle-along in
-    let may = may-idle (c .before .before .before .before .before .before .before .before .before .before .pre) (c .before .before .before .before .before .before .loop-test .taken) (entry-of .result) (entry-of .ensures) (is-live .result) (is-live .ensures) (not-false (is-live .result) (c .before .before .before .if1 .left)) in
-    idled-end may (idled-on (c .before .before .before .before .before .before .before .loop .inv) (along .ensures)) (omega (arith, c .if3 .left)) (entry-of .result) (entry-of .ensures) (c .before .if2 .left)
+    let else2 : tie.Else2 Inv-loop μ-loop = search in
+    let along : tie.After-idle-along Inv-loop μ-loop = search in
+    let else1 : tie.Else1 Inv-loop μ-loop = search in
+    let live : tie.After-is-live Inv-loop μ-loop = search in
+    let e : tie.After-entry-of Inv-loop μ-loop = search in
+    let inl : tie.In-loop Inv-loop μ-loop = search in
+    let at : tie.At-loop Inv-loop μ-loop = search in
+    let s : tie.Start Inv-loop μ-loop = search in
+    let may = may-idle (s .pre) (inl .loop-test .taken) (e .entry-of .result) (e .entry-of .ensures) (live .is-live .result) (live .is-live .ensures) (not-false (live .is-live .result) (else1 .if1 .left)) in
+    idled-end may (idled-on (at .loop .inv) (along .idle-along .ensures)) (omega (arith, c .if3 .left)) (e .entry-of .result) (e .entry-of .ensures) (else2 .if2 .left)
 
 returns-4 : tie.Need-returns-4 Inv-loop μ-loop
 returns-4 c = c .before .loop .inv

@@ -18,41 +18,51 @@ loop-holds c = record { goal = refl }
 
 entry-of-requires : tie.Need-entry-of-requires Inv-loop μ-loop
 entry-of-requires c κs =
-    let s = c .before .before .before in
+    let s : tie.Start Inv-loop μ-loop = search in
     (s .pre .0, s .pre .1, omega (arith, c .loop-test .taken, s .pre .2))
 
 is-live-requires : tie.Need-is-live-requires Inv-loop μ-loop
 is-live-requires c κs =
-    let s = c .before .before .before .before in
-    let entry-of = c .entry-of in
-    (s .pre .0, root-in (s .pre .0) (s .args .e) (c .before .before .loop .j) (entry-of .result) (s .pre .1) (omega (arith, c .before .loop-test .taken, s .pre .2)) (entry-of .ensures))
+    let e : tie.After-entry-of Inv-loop μ-loop = search in
+    let inl : tie.In-loop Inv-loop μ-loop = search in
+    let at : tie.At-loop Inv-loop μ-loop = search in
+    let s : tie.Start Inv-loop μ-loop = search in
+    (s .pre .0, root-in (s .pre .0) (s .args .e) (at .loop .j) (e .entry-of .result) (s .pre .1) (omega (arith, inl .loop-test .taken, s .pre .2)) (e .entry-of .ensures))
 
 returns : tie.Need-returns Inv-loop μ-loop
 returns c =
-    let s = c .before .before .before .before .before .before in
-    let entry-of = c .before .before .entry-of in
-    let is-live = c .before .is-live in
-    seeking-found (c .before .before .before .before .loop .inv) (s .pre .0) (s .pre .1) (omega (arith, c .before .before .before .loop-test .taken, s .pre .2)) (entry-of .result) (entry-of .ensures) (is-live .result) (is-live .ensures) (c .if1 .taken)
+    let live : tie.After-is-live Inv-loop μ-loop = search in
+    let e : tie.After-entry-of Inv-loop μ-loop = search in
+    let inl : tie.In-loop Inv-loop μ-loop = search in
+    let at : tie.At-loop Inv-loop μ-loop = search in
+    let s : tie.Start Inv-loop μ-loop = search in
+    seeking-found (at .loop .inv) (s .pre .0) (s .pre .1) (omega (arith, inl .loop-test .taken, s .pre .2)) (e .entry-of .result) (e .entry-of .ensures) (live .is-live .result) (live .is-live .ensures) (c .if1 .taken)
 
 add-j : tie.Need-add-j Inv-loop μ-loop
 add-j c =
-    let s = c .before .before .before .before .before .before in
-    omega (arith, c .before .before .before .loop-test .taken, s .fits .len)
+    let inl : tie.In-loop Inv-loop μ-loop = search in
+    let s : tie.Start Inv-loop μ-loop = search in
+    omega (arith, inl .loop-test .taken, s .fits .len)
 
 loop-less : tie.Need-loop-less Inv-loop μ-loop
-loop-less c = omega (arith, c .before .before .before .loop-test .taken)
+loop-less c =
+    let inl : tie.In-loop Inv-loop μ-loop = search in
+    omega (arith, inl .loop-test .taken)
 
 loop-again : tie.Need-loop-again Inv-loop μ-loop
 loop-again c =
-    let s = c .before .before .before .before .before .before in
-    let entry-of = c .before .before .entry-of in
-    let is-live = c .before .is-live in
-    seeking-again (c .before .before .before .before .loop .inv) (s .pre .0) (s .pre .1) (omega (arith, c .before .before .before .loop-test .taken, s .pre .2)) (entry-of .result) (entry-of .ensures) (is-live .result) (is-live .ensures) (c .if1 .left)
+    let live : tie.After-is-live Inv-loop μ-loop = search in
+    let e : tie.After-entry-of Inv-loop μ-loop = search in
+    let inl : tie.In-loop Inv-loop μ-loop = search in
+    let at : tie.At-loop Inv-loop μ-loop = search in
+    let s : tie.Start Inv-loop μ-loop = search in
+    seeking-again (at .loop .inv) (s .pre .0) (s .pre .1) (omega (arith, inl .loop-test .taken, s .pre .2)) (e .entry-of .result) (e .entry-of .ensures) (live .is-live .result) (live .is-live .ensures) (c .if1 .left)
 
 returns-2 : tie.Need-returns-2 Inv-loop μ-loop
 returns-2 c =
-    let s = c .before .before .before in
-    seeking-end (c .before .loop .inv) (s .pre .0) (s .pre .1) (omega (arith, c .loop-test .left, s .pre .2))
+    let at : tie.At-loop Inv-loop μ-loop = search in
+    let s : tie.Start Inv-loop μ-loop = search in
+    seeking-end (at .loop .inv) (s .pre .0) (s .pre .1) (omega (arith, c .loop-test .left, s .pre .2))
 
 pub seek-spec : {M : Type 1} → statement M
 seek-spec =

@@ -18,12 +18,12 @@ add-ccw c = search needs
 
 entry-of-requires : tie.Need-entry-of-requires
 entry-of-requires c κs =
-    let s = c .before .before in
+    let s : tie.Start = search in
     (s .pre .0 .holds, omega (arith, s .pre .0 .side-in), s .pre .1)
 
 add-t19 : tie.Need-add-t19
 add-t19 c =
-    let s = c .before .before .before .before in
+    let s : tie.Start = search in
     omega (arith, s .pre .1, s .pre .0 .holds .lists (s .args .idx * 2) (omega (arith, s .pre .0 .side-in)), s .pre .0 .holds .room .small)
 
 same-length : tie.Need-same-length
@@ -31,24 +31,25 @@ same-length c = search needs
 
 returns : tie.Need-returns
 returns c =
-    let s = c .before .before .before .before in
-    let entry-of = c .before .entry-of in
-    turn-none (s .pre .0) (s .args .i) (s .args .j) (entry-of .result) (entry-of .ensures) (c .if1 .taken)
+    let e : tie.After-entry-of = search in
+    let s : tie.Start = search in
+    turn-none (s .pre .0) (s .args .i) (s .args .j) (e .entry-of .result) (e .entry-of .ensures) (c .if1 .taken)
 
 is-stub-requires : tie.Need-is-stub-requires
 is-stub-requires c κs =
-    let s = c .before .before .before .before .before in
-    let entry-of = c .before .before .entry-of in
-    (s .pre .0 .holds, root-in (s .pre .0 .holds) (s .args .idx * 2) (s .args .i) (entry-of .result) (omega (arith, s .pre .0 .side-in)) (s .pre .1) (entry-of .ensures) (c .before .if1 .left))
+    let else1 : tie.Else1 = search in
+    let e : tie.After-entry-of = search in
+    let s : tie.Start = search in
+    (s .pre .0 .holds, root-in (s .pre .0 .holds) (s .args .idx * 2) (s .args .i) (e .entry-of .result) (omega (arith, s .pre .0 .side-in)) (s .pre .1) (e .entry-of .ensures) (else1 .if1 .left))
 
 set-entry-requires : tie.Need-set-entry-requires
 set-entry-requires c κs =
-    let s = c .before .before .before .before .before .before .before .before in
+    let s : tie.Start = search in
     (s .pre .0 .holds, omega (arith, s .pre .0 .side-in), s .pre .1, λ q. absurd (q refl))
 
 add-t26 : tie.Need-add-t26
 add-t26 c =
-    let s = c .before .before .before .before .before .before .before .before .before .before .before in
+    let s : tie.Start = search in
     omega (arith, s .pre .1, s .pre .0 .holds .lists (s .args .idx * 2) (omega (arith, s .pre .0 .side-in)), s .pre .0 .holds .room .small)
 
 same-length-2 : tie.Need-same-length-2
@@ -56,12 +57,13 @@ same-length-2 c = search needs
 
 returns-2 : tie.Need-returns-2
 returns-2 c =
-    let s = c .before .before .before .before .before .before .before .before .before .before .before in
-    let entry-of = c .before .before .before .before .before .before .before .before .entry-of in
-    let if1 = c .before .before .before .before .before .before .before .if1 in
-    let is-stub = c .before .before .before .before .before .is-stub in
-    let if2 = c .before .before .before .before .if2 in
-    turn-stub (s .pre .0) (s .args .i) (s .args .j) (entry-of .result) (entry-of .ensures) (if1 .left) (sym (is-stub .ensures) ∙ if2 .taken) (c .before .before .set-entry .ensures)
+    let set : tie.After-set-entry = search in
+    let then2 : tie.Then2 = search in
+    let is : tie.After-is-stub = search in
+    let else1 : tie.Else1 = search in
+    let e : tie.After-entry-of = search in
+    let s : tie.Start = search in
+    turn-stub (s .pre .0) (s .args .i) (s .args .j) (e .entry-of .result) (e .entry-of .ensures) (else1 .if1 .left) (sym (is .is-stub .ensures) ∙ then2 .if2 .taken) (set .set-entry .ensures)
 
 mul-len : tie.Need-mul-len
 mul-len c = search needs
@@ -71,12 +73,12 @@ array-read-len c = search needs
 
 seek-requires : tie.Need-seek-requires
 seek-requires c κs =
-    let s = c .before .before .before .before .before .before .before .before .before in
+    let s : tie.Start = search in
     (s .pre .0 .holds, omega (arith, s .pre .0 .side-in), refl)
 
 add-t32 : tie.Need-add-t32
 add-t32 c =
-    let s = c .before .before .before .before .before .before .before .before .before .before .before in
+    let s : tie.Start = search in
     omega (arith, s .pre .1, s .pre .0 .holds .lists (s .args .idx * 2) (omega (arith, s .pre .0 .side-in)), s .pre .0 .holds .room .small)
 
 same-length-3 : tie.Need-same-length-3
@@ -84,85 +86,87 @@ same-length-3 c = search needs
 
 returns-3 : tie.Need-returns-3
 returns-3 c =
-    let s = c .before .before .before .before .before .before .before .before .before .before .before in
-    let entry-of = c .before .before .before .before .before .before .before .before .entry-of in
-    let if1 = c .before .before .before .before .before .before .before .if1 in
-    let is-stub = c .before .before .before .before .before .is-stub in
-    let if2 = c .before .before .before .before .if2 in
-    let seek = c .before .seek in
-    turn-end (s .pre .0) (s .args .i) (s .args .j) (entry-of .result) (entry-of .ensures) (if1 .left) (sym (is-stub .ensures) ∙ if2 .left) (seek .result) (seek .ensures) (c .if3 .taken)
+    let sought : tie.After-seek = search in
+    let else2 : tie.Else2 = search in
+    let is : tie.After-is-stub = search in
+    let else1 : tie.Else1 = search in
+    let e : tie.After-entry-of = search in
+    let s : tie.Start = search in
+    turn-end (s .pre .0) (s .args .i) (s .args .j) (e .entry-of .result) (e .entry-of .ensures) (else1 .if1 .left) (sym (is .is-stub .ensures) ∙ else2 .if2 .left) (sought .seek .result) (sought .seek .ensures) (c .if3 .taken)
 
 entry-of-requires-2 : tie.Need-entry-of-requires-2
 entry-of-requires-2 c κs =
-    let s = c .before .before .before .before .before .before .before .before .before .before .before .before in
-    (s .pre .0 .holds, omega (arith, s .pre .0 .side-in), c .before .if3 .left)
+    let else3 : tie.Else3 = search in
+    let s : tie.Start = search in
+    (s .pre .0 .holds, omega (arith, s .pre .0 .side-in), else3 .if3 .left)
 
 four-of-requires : tie.Need-four-of-requires
 four-of-requires c κs =
-    let s = c .before .before .before .before .before .before .before .before .before .before .before .before .before .before in
-    let entry-of = c .before .before .before .before .before .before .before .before .before .before .before .entry-of in
-    let if1 = c .before .before .before .before .before .before .before .before .before .before .if1 in
-    let seek = c .before .before .before .before .seek in
-    let entry-of2 = c .before .entry-of2 in
-    let if3 = c .before .before .before .if3 in
-    (s .pre .0 .holds, root-in (s .pre .0 .holds) (s .args .idx * 2) (s .args .i) (entry-of .result) (omega (arith, s .pre .0 .side-in)) (s .pre .1) (entry-of .ensures) (if1 .left), live-root (s .pre .0 .holds) (s .args .idx * 2 + 1) (s .args .j) (seek .result) (entry-of2 .result) (omega (arith, s .pre .0 .side-in)) (seek .ensures) (if3 .left) (entry-of2 .ensures))
+    let e2 : tie.After-entry-of2 = search in
+    let else3 : tie.Else3 = search in
+    let sought : tie.After-seek = search in
+    let else1 : tie.Else1 = search in
+    let e : tie.After-entry-of = search in
+    let s : tie.Start = search in
+    (s .pre .0 .holds, root-in (s .pre .0 .holds) (s .args .idx * 2) (s .args .i) (e .entry-of .result) (omega (arith, s .pre .0 .side-in)) (s .pre .1) (e .entry-of .ensures) (else1 .if1 .left), live-root (s .pre .0 .holds) (s .args .idx * 2 + 1) (s .args .j) (sought .seek .result) (e2 .entry-of2 .result) (omega (arith, s .pre .0 .side-in)) (sought .seek .ensures) (else3 .if3 .left) (e2 .entry-of2 .ensures))
 
 overlap-requires : tie.Need-overlap-requires
 overlap-requires c κs =
-    let s = c .before .before .before .before .before .before .before .before .before .before .before .before .before .before .before in
+    let s : tie.Start = search in
     (s .pre .0 .drawn, c .four-of .ensures .within)
 
 rejoin-requires : tie.Need-rejoin-requires
 rejoin-requires c κs =
-    let s = c .before .before .before .before .before .before .before .before .before .before .before .before .before .before .before .before .before .before in
-    let if3 = c .before .before .before .before .before .before .before .if3 in
-    let entry-of = c .before .before .before .before .before .before .before .before .before .before .before .before .before .before .before .entry-of in
-    let if1 = c .before .before .before .before .before .before .before .before .before .before .before .before .before .before .if1 in
-    let seek = c .before .before .before .before .before .before .before .before .seek in
-    let entry-of2 = c .before .before .before .before .before .entry-of2 in
-    let four-of = c .before .before .before .four-of in
-    record { drawn = s .pre .0 .drawn; holds = s .pre .0 .holds; spare = s .pre .0 .spare; side-in = s .pre .0 .side-in; i-in = s .pre .1; j-in = if3 .left; root1-in = root-in (s .pre .0 .holds) (s .args .idx * 2) (s .args .i) (entry-of .result) (omega (arith, s .pre .0 .side-in)) (s .pre .1) (entry-of .ensures) (if1 .left); root2-in = live-root (s .pre .0 .holds) (s .args .idx * 2 + 1) (s .args .j) (seek .result) (entry-of2 .result) (omega (arith, s .pre .0 .side-in)) (seek .ensures) (if3 .left) (entry-of2 .ensures); four-in = four-of .ensures .within }
+    let f : tie.After-four-of = search in
+    let e2 : tie.After-entry-of2 = search in
+    let else3 : tie.Else3 = search in
+    let sought : tie.After-seek = search in
+    let else1 : tie.Else1 = search in
+    let e : tie.After-entry-of = search in
+    let s : tie.Start = search in
+    record { drawn = s .pre .0 .drawn; holds = s .pre .0 .holds; spare = s .pre .0 .spare; side-in = s .pre .0 .side-in; i-in = s .pre .1; j-in = else3 .if3 .left; root1-in = root-in (s .pre .0 .holds) (s .args .idx * 2) (s .args .i) (e .entry-of .result) (omega (arith, s .pre .0 .side-in)) (s .pre .1) (e .entry-of .ensures) (else1 .if1 .left); root2-in = live-root (s .pre .0 .holds) (s .args .idx * 2 + 1) (s .args .j) (sought .seek .result) (e2 .entry-of2 .result) (omega (arith, s .pre .0 .side-in)) (sought .seek .ensures) (else3 .if3 .left) (e2 .entry-of2 .ensures); four-in = f .four-of .ensures .within }
 
 same-length-4 : tie.Need-same-length-4
 same-length-4 c = search needs
 
 returns-4 : tie.Need-returns-4
 returns-4 c =
-    let s = c .before .before .before .before .before .before .before .before .before .before .before .before .before .before .before .before .before .before .before .before .before in
-    let entry-of = c .before .before .before .before .before .before .before .before .before .before .before .before .before .before .before .before .before .before .entry-of in
-    let if1 = c .before .before .before .before .before .before .before .before .before .before .before .before .before .before .before .before .before .if1 in
-    let is-stub = c .before .before .before .before .before .before .before .before .before .before .before .before .before .before .before .is-stub in
-    let if2 = c .before .before .before .before .before .before .before .before .before .before .before .before .before .before .if2 in
-    let seek = c .before .before .before .before .before .before .before .before .before .before .before .seek in
-    let if3 = c .before .before .before .before .before .before .before .before .before .before .if3 in
-    let entry-of2 = c .before .before .before .before .before .before .before .before .entry-of2 in
-    let four-of = c .before .before .before .before .before .before .four-of in
-    let overlap = c .before .before .before .before .before .overlap in
-    let if4 = c .before .before .before .before .if4 in
-    let rejoin = c .before .before .rejoin in
-    turn-rejoined (s .pre .0) (s .args .i) (s .args .j) (entry-of .result) (entry-of .ensures) (if1 .left) (sym (is-stub .ensures) ∙ if2 .left) (seek .result) (seek .ensures) (if3 .left) (entry-of2 .result) (entry-of2 .ensures) (four-of .result) (four-of .ensures) (sym (overlap .ensures) ∙ if4 .taken) (rejoin .result) (rejoin .ensures)
+    let r : tie.After-rejoin = search in
+    let then4 : tie.Then4 = search in
+    let o : tie.After-overlap = search in
+    let f : tie.After-four-of = search in
+    let e2 : tie.After-entry-of2 = search in
+    let else3 : tie.Else3 = search in
+    let sought : tie.After-seek = search in
+    let else2 : tie.Else2 = search in
+    let is : tie.After-is-stub = search in
+    let else1 : tie.Else1 = search in
+    let e : tie.After-entry-of = search in
+    let s : tie.Start = search in
+    turn-rejoined (s .pre .0) (s .args .i) (s .args .j) (e .entry-of .result) (e .entry-of .ensures) (else1 .if1 .left) (sym (is .is-stub .ensures) ∙ else2 .if2 .left) (sought .seek .result) (sought .seek .ensures) (else3 .if3 .left) (e2 .entry-of2 .result) (e2 .entry-of2 .ensures) (f .four-of .result) (f .four-of .ensures) (sym (o .overlap .ensures) ∙ then4 .if4 .taken) (r .rejoin .result) (r .rejoin .ensures)
 
 add-t29 : tie.Need-add-t29
 add-t29 c =
-    let if3 = c .before .before .before .before .before .before .if3 in
-    let s = c .before .before .before .before .before .before .before .before .before .before .before .before .before .before .before .before .before in
-    omega (arith, if3 .left, s .pre .0 .holds .lists (s .args .idx * 2 + 1) (omega (arith, s .pre .0 .side-in)), s .pre .0 .holds .room .small)
+    let else3 : tie.Else3 = search in
+    let s : tie.Start = search in
+    omega (arith, else3 .if3 .left, s .pre .0 .holds .lists (s .args .idx * 2 + 1) (omega (arith, s .pre .0 .side-in)), s .pre .0 .holds .room .small)
 
 same-length-5 : tie.Need-same-length-5
 same-length-5 c = search needs
 
 returns-5 : tie.Need-returns-5
 returns-5 c =
-    let s = c .before .before .before .before .before .before .before .before .before .before .before .before .before .before .before .before .before in
-    let entry-of = c .before .before .before .before .before .before .before .before .before .before .before .before .before .before .entry-of in
-    let if1 = c .before .before .before .before .before .before .before .before .before .before .before .before .before .if1 in
-    let is-stub = c .before .before .before .before .before .before .before .before .before .before .before .is-stub in
-    let if2 = c .before .before .before .before .before .before .before .before .before .before .if2 in
-    let seek = c .before .before .before .before .before .before .before .seek in
-    let if3 = c .before .before .before .before .before .before .if3 in
-    let entry-of2 = c .before .before .before .before .entry-of2 in
-    let four-of = c .before .before .four-of in
-    turn-apart (s .pre .0) (s .args .i) (s .args .j) (entry-of .result) (entry-of .ensures) (if1 .left) (sym (is-stub .ensures) ∙ if2 .left) (seek .result) (seek .ensures) (if3 .left) (entry-of2 .result) (entry-of2 .ensures) (four-of .result) (four-of .ensures) (sym (c .before .overlap .ensures) ∙ c .if4 .left)
+    let o : tie.After-overlap = search in
+    let f : tie.After-four-of = search in
+    let e2 : tie.After-entry-of2 = search in
+    let else3 : tie.Else3 = search in
+    let sought : tie.After-seek = search in
+    let else2 : tie.Else2 = search in
+    let is : tie.After-is-stub = search in
+    let else1 : tie.Else1 = search in
+    let e : tie.After-entry-of = search in
+    let s : tie.Start = search in
+    turn-apart (s .pre .0) (s .args .i) (s .args .j) (e .entry-of .result) (e .entry-of .ensures) (else1 .if1 .left) (sym (is .is-stub .ensures) ∙ else2 .if2 .left) (sought .seek .result) (sought .seek .ensures) (else3 .if3 .left) (e2 .entry-of2 .result) (e2 .entry-of2 .ensures) (f .four-of .result) (f .four-of .ensures) (sym (o .overlap .ensures) ∙ c .if4 .left)
 
 pub one-turn-spec : {M : Type 1} → statement M
 one-turn-spec =

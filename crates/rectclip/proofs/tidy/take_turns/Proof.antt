@@ -1,5 +1,6 @@
 -- `rectclip::tidy::take_turns` meets its contract: the loop takes the definition's turns, and is left where it is.
 use native.Mathlib.Omega.{arith}
+use borrow.Author.Needs.{needs}
 use borrow.Author.Tests.{not-true, not-false}
 use Rattle.rectclip.proofs.Tidying.{Tidying, tidying-start, tidying-may, tidying-idle, tidying-stop, tidying-out, tidying-full, tidying-in, tidying-again}
 use Rattle.rectclip.proofs.tidy.take_turns.Statement.{statement}
@@ -18,63 +19,119 @@ loop-holds : tie.Need-loop-holds Inv-loop μ-loop
 loop-holds c = tidying-start (c .before .pre)
 
 idle-turns-requires : tie.Need-idle-turns-requires Inv-loop μ-loop
-idle-turns-requires c κs = tidying-may (c .before .before .before .loop .inv) (c .before .before .before .before .before .pre) (c .before .before .loop-test .taken)
+idle-turns-requires c κs =
+    let inl : tie.In-loop Inv-loop μ-loop = search in
+    let at : tie.At-loop Inv-loop μ-loop = search in
+    let s : tie.Start Inv-loop μ-loop = search in
+    tidying-may (at .loop .inv) (s .pre) (inl .loop-test .taken)
 
 is-left-requires : tie.Need-is-left-requires Inv-loop μ-loop
-is-left-requires c κs = (c .before .before .before .before .loop .inv .so-far .holds .eight, c .before .before .before .before .before .before .pre .side-in)
+is-left-requires c κs =
+    let at : tie.At-loop Inv-loop μ-loop = search in
+    let s : tie.Start Inv-loop μ-loop = search in
+    (at .loop .inv .so-far .holds .eight, s .pre .side-in)
 
-sub-t17 : tie.Need-sub-t17 Inv-loop μ-loop
-sub-t17 c = omega (arith, c .before .before .before .before .before .before .loop .inv .left-in, c .before .before .idle-turns .ensures .fewer)
+sub-new : tie.Need-sub-new Inv-loop μ-loop
+sub-new c =
+    let idle : tie.After-idle-turns Inv-loop μ-loop = search in
+    let at : tie.At-loop Inv-loop μ-loop = search in
+    omega (arith, at .loop .inv .left-in, idle .idle-turns .ensures .fewer)
+
+new-requires : tie.Need-new-requires Inv-loop μ-loop
+new-requires c κs = search needs
 
 same-length : tie.Need-same-length Inv-loop μ-loop
-same-length c = c .before .before .before .before .before .before .loop .inv .so-far .same
+same-length c =
+    let at : tie.At-loop Inv-loop μ-loop = search in
+    at .loop .inv .so-far .same
 
 returns : tie.Need-returns Inv-loop μ-loop
 returns c =
-    let s = c .before .before .before .before .before .before .before .before in
-    let is-left = c .before .is-left in
-    tidying-stop (tidying-idle (c .before .before .before .before .before .before .loop .inv) (s .pre) (c .before .before .idle-turns .ensures)) (s .pre) (is-left .result) (is-left .ensures) (not-true (is-left .result) (c .if1 .taken))
+    let n : tie.After-new Inv-loop μ-loop = search in
+    let then1 : tie.Then1 Inv-loop μ-loop = search in
+    let is : tie.After-is-left Inv-loop μ-loop = search in
+    let idle : tie.After-idle-turns Inv-loop μ-loop = search in
+    let at : tie.At-loop Inv-loop μ-loop = search in
+    let s : tie.Start Inv-loop μ-loop = search in
+    let on = tidying-idle (at .loop .inv) (s .pre) (idle .idle-turns .ensures) in
+    rw (n .new .ensures) (tidying-stop on (s .pre) (is .is-left .result) (is .is-left .ensures) (not-true (is .is-left .result) (then1 .if1 .taken)))
+
+new-requires-2 : tie.Need-new-requires-2 Inv-loop μ-loop
+new-requires-2 c κs = search needs
 
 same-length-2 : tie.Need-same-length-2 Inv-loop μ-loop
-same-length-2 c = c .before .before .before .before .before .before .before .loop .inv .so-far .same
+same-length-2 c =
+    let at : tie.At-loop Inv-loop μ-loop = search in
+    at .loop .inv .so-far .same
 
 returns-2 : tie.Need-returns-2 Inv-loop μ-loop
 returns-2 c =
-    let s = c .before .before .before .before .before .before .before .before .before in
-    let is-left = c .before .before .is-left in
-    tidying-full (tidying-idle (c .before .before .before .before .before .before .before .loop .inv) (s .pre) (c .before .before .before .idle-turns .ensures)) (s .pre) (is-left .result) (is-left .ensures) (not-false (is-left .result) (c .before .if1 .left)) (c .if2 .taken)
+    let n2 : tie.After-new2 Inv-loop μ-loop = search in
+    let then2 : tie.Then2 Inv-loop μ-loop = search in
+    let else1 : tie.Else1 Inv-loop μ-loop = search in
+    let is : tie.After-is-left Inv-loop μ-loop = search in
+    let idle : tie.After-idle-turns Inv-loop μ-loop = search in
+    let at : tie.At-loop Inv-loop μ-loop = search in
+    let s : tie.Start Inv-loop μ-loop = search in
+    let on = tidying-idle (at .loop .inv) (s .pre) (idle .idle-turns .ensures) in
+    rw (n2 .new2 .ensures) (tidying-full on (s .pre) (is .is-left .result) (is .is-left .ensures) (not-false (is .is-left .result) (else1 .if1 .left)) (then2 .if2 .taken))
 
 one-turn-requires : tie.Need-one-turn-requires Inv-loop μ-loop
 one-turn-requires c κs =
-    let s = c .before .before .before .before .before .before .before .before .before .before in
-    let is-left = c .before .before .before .is-left in
-    let on = tidying-idle (c .before .before .before .before .before .before .before .before .loop .inv) (s .pre) (c .before .before .before .before .idle-turns .ensures) in
-    (tidying-may on (s .pre) (omega (arith, c .before .if2 .left)), tidying-in on (s .pre) (is-left .result) (is-left .ensures) (omega (arith, c .before .if2 .left)) (not-false (is-left .result) (c .before .before .if1 .left)))
+    let else2 : tie.Else2 Inv-loop μ-loop = search in
+    let else1 : tie.Else1 Inv-loop μ-loop = search in
+    let is : tie.After-is-left Inv-loop μ-loop = search in
+    let idle : tie.After-idle-turns Inv-loop μ-loop = search in
+    let at : tie.At-loop Inv-loop μ-loop = search in
+    let s : tie.Start Inv-loop μ-loop = search in
+    let on = tidying-idle (at .loop .inv) (s .pre) (idle .idle-turns .ensures) in
+    (tidying-may on (s .pre) (omega (arith, else2 .if2 .left)), tidying-in on (s .pre) (is .is-left .result) (is .is-left .ensures) (omega (arith, else2 .if2 .left)) (not-false (is .is-left .result) (else1 .if1 .left)))
 
 sub-left-2 : tie.Need-sub-left-2 Inv-loop μ-loop
-sub-left-2 c = omega (arith, c .before .before .before .before .if2 .left)
+sub-left-2 c =
+    let else2 : tie.Else2 Inv-loop μ-loop = search in
+    omega (arith, else2 .if2 .left)
 
 loop-less : tie.Need-loop-less Inv-loop μ-loop
-loop-less c = omega (arith, c .before .before .before .before .if2 .left, c .before .before .before .before .before .before .before .idle-turns .ensures .fewer)
+loop-less c =
+    let else2 : tie.Else2 Inv-loop μ-loop = search in
+    let idle : tie.After-idle-turns Inv-loop μ-loop = search in
+    omega (arith, else2 .if2 .left, idle .idle-turns .ensures .fewer)
 
 loop-again : tie.Need-loop-again Inv-loop μ-loop
 loop-again c =
-    let s = c .before .before .before .before .before .before .before .before .before .before .before .before .before in
-    let is-left = c .before .before .before .before .before .before .is-left in
-    let one-turn = c .before .before .one-turn in
-    let on = tidying-idle (c .before .before .before .before .before .before .before .before .before .before .before .loop .inv) (s .pre) (c .before .before .before .before .before .before .before .idle-turns .ensures) in
-    tidying-again on (s .pre) (is-left .result) (is-left .ensures) (omega (arith, c .before .before .before .before .if2 .left)) (not-false (is-left .result) (c .before .before .before .before .before .if1 .left)) (one-turn .result) (one-turn .ensures)
+    let one : tie.After-one-turn Inv-loop μ-loop = search in
+    let else2 : tie.Else2 Inv-loop μ-loop = search in
+    let else1 : tie.Else1 Inv-loop μ-loop = search in
+    let is : tie.After-is-left Inv-loop μ-loop = search in
+    let idle : tie.After-idle-turns Inv-loop μ-loop = search in
+    let at : tie.At-loop Inv-loop μ-loop = search in
+    let s : tie.Start Inv-loop μ-loop = search in
+    let on = tidying-idle (at .loop .inv) (s .pre) (idle .idle-turns .ensures) in
+    tidying-again on (s .pre) (is .is-left .result) (is .is-left .ensures) (omega (arith, else2 .if2 .left)) (not-false (is .is-left .result) (else1 .if1 .left)) (one .one-turn .result) (one .one-turn .ensures)
 
 is-left-requires-2 : tie.Need-is-left-requires-2 Inv-loop μ-loop
-is-left-requires-2 c κs = (c .before .before .loop .inv .so-far .holds .eight, c .before .before .before .before .pre .side-in)
+is-left-requires-2 c κs =
+    let at : tie.At-loop Inv-loop μ-loop = search in
+    let s : tie.Start Inv-loop μ-loop = search in
+    (at .loop .inv .so-far .holds .eight, s .pre .side-in)
+
+new-requires-3 : tie.Need-new-requires-3 Inv-loop μ-loop
+new-requires-3 c κs = search needs
 
 same-length-3 : tie.Need-same-length-3 Inv-loop μ-loop
-same-length-3 c = c .before .before .before .loop .inv .so-far .same
+same-length-3 c =
+    let at : tie.At-loop Inv-loop μ-loop = search in
+    at .loop .inv .so-far .same
 
 returns-3 : tie.Need-returns-3 Inv-loop μ-loop
 returns-3 c =
-    let is-left2 = c .is-left2 in
-    tidying-out (c .before .before .before .loop .inv) (c .before .before .before .before .before .pre) (is-left2 .result) (is-left2 .ensures) (c .before .before .loop-test .left)
+    let n3 : tie.After-new3 Inv-loop μ-loop = search in
+    let is2 : tie.After-is-left2 Inv-loop μ-loop = search in
+    let after : tie.After-loop Inv-loop μ-loop = search in
+    let at : tie.At-loop Inv-loop μ-loop = search in
+    let s : tie.Start Inv-loop μ-loop = search in
+    rw (n3 .new3 .ensures) (tidying-out (at .loop .inv) (s .pre) (is2 .is-left2 .result) (is2 .is-left2 .ensures) (after .loop-test .left))
 
 pub take-turns-spec : {M : Type 1} → statement M
 take-turns-spec =
@@ -86,9 +143,11 @@ take-turns-spec =
     loop-holds
     idle-turns-requires
     is-left-requires
-    sub-t17
+    sub-new
+    new-requires
     same-length
     returns
+    new-requires-2
     same-length-2
     returns-2
     one-turn-requires
@@ -96,5 +155,6 @@ take-turns-spec =
     loop-less
     loop-again
     is-left-requires-2
+    new-requires-3
     same-length-3
     returns-3)

@@ -25,8 +25,11 @@ enum-known-e c = search needs
 enum-told : tie.Need-enum-told Inv-loop μ-loop
 enum-told c = search needs
 
+abbrev head : tie.After-e Inv-loop μ-loop → tie.At-loop Inv-loop μ-loop
+head c = c .before .before .before
+
 -- the number that was found
-at-found : (c : tie.After-e Inv-loop μ-loop) → Found (c .before .before .before .before .before .args .line .now) (c .before .before .before .loop .from) (c .e .given .0 .0) (c .e .given .0 .1 .0)
+at-found : (c : tie.After-e Inv-loop μ-loop) → Found (head c .before .before .args .line .now) (head c .loop .from) (c .e .given .0 .0) (c .e .given .0 .1 .0)
 at-found c =
     let s : tie.Start Inv-loop μ-loop = search in
     let a : tie.At-loop Inv-loop μ-loop = search in

@@ -31,8 +31,11 @@ enum-told c = search needs
 same-length : tie.Need-same-length Inv-loop μ-loop
 same-length c = search needs
 
+abbrev head : tie.After-e Inv-loop μ-loop → tie.At-loop Inv-loop μ-loop
+head c = c .before .before .before .before
+
 -- the number that was found
-at-found : (c : tie.After-e Inv-loop μ-loop) → Found (c .before .before .before .before .before .before .args .line .now) (c .before .before .before .before .loop .from) (c .e .given .0 .0) (c .e .given .0 .1 .0)
+at-found : (c : tie.After-e Inv-loop μ-loop) → Found (head c .before .before .args .line .now) (head c .loop .from) (c .e .given .0 .0) (c .e .given .0 .1 .0)
 at-found c =
     let s : tie.Start Inv-loop μ-loop = search in
     let a : tie.At-loop Inv-loop μ-loop = search in
