@@ -4,8 +4,8 @@
 Every edit's old text stands exactly once in its file. Every public function of the named crates (else: of none) has two edits or more,
 and they are printed: those that change its own text or a constant that it names, and those whose `of:` line names it. Of the functions
 that one edit changes none calls another, so that each is refused for its own sake.
-With --logs, after `rt must-fail`: the log of each edit of the named crates refuses every function that the edit changes, every one that
-its `of:` lines name and every law that its `at:` lines name, and nothing because a proof file no longer fits the code."""
+With --logs, after `rt must-fail` and refuse.py: the log of each edit of the named crates refuses every function that the edit changes, every
+one that its `of:` lines name and every law that its `at:` lines name, and nothing because a proof file no longer fits the code."""
 import glob
 import os
 import re
@@ -29,6 +29,7 @@ class Edit:
     of: list = field(default_factory=list)
     at: list = field(default_factory=list)
     places: list = field(default_factory=list)  # (file, line)
+    texts: dict = field(default_factory=dict)  # of each file that it changes, the text afterwards
 
 
 wrong = []
@@ -67,7 +68,6 @@ def functions(crate):
 def parse(crate, path):
     """An edit, with the places that it changes, as `rt must-fail` reads it."""
     edit = Edit(os.path.basename(path)[:-5])
-    texts = {}
     file = old = ""
     for line in read(path).split("\n"):
         key, _, rest = line.partition(": ")
@@ -78,13 +78,17 @@ def parse(crate, path):
         elif key == "old":
             old = rest
         elif line.startswith("new:"):
-            text = texts.get(file) or read(f"crates/{crate}/{file}")
+            text = edit.texts.get(file) or read(f"crates/{crate}/{file}")
             if text.count(old) != 1:
                 wrong.append(f"{path}: an old text stands {text.count(old)} times in {file}")
                 continue
             edit.places.append((file, text[: text.index(old)].count("\n") + 1))
-            texts[file] = text.replace(old, rest)
+            edit.texts[file] = text.replace(old, rest)
     return edit
+
+
+def edits_of(crate, folder="must-fail*"):
+    return [parse(crate, path) for path in sorted(glob.glob(f"crates/{crate}/{folder}/*.edit"))]
 
 
 def changed(edit, crate, all_functions):
@@ -162,13 +166,15 @@ def check(crate, edits, logs):
             wrong.append(f"{crate}::{name}: fewer than two edits")
 
 
-crates = [a for a in sys.argv[1:] if a != "--logs"]
-edits = {}
-for path in sorted(glob.glob("crates/*/must-fail/*.edit")):
-    crate = path.split("/")[1]
-    edits.setdefault(crate, []).append(parse(crate, path))
-for crate in crates:
-    check(crate, edits.get(crate, []), "--logs" in sys.argv)
-for line in wrong:
-    print(line, file=sys.stderr)
-sys.exit(1 if wrong else 0)
+def main():
+    crates = [a for a in sys.argv[1:] if a != "--logs"]
+    edits = {crate: edits_of(crate) for crate in sorted(os.listdir("crates"))}
+    for crate in crates:
+        check(crate, edits[crate], "--logs" in sys.argv)
+    for line in wrong:
+        print(line, file=sys.stderr)
+    sys.exit(1 if wrong else 0)
+
+
+if __name__ == "__main__":
+    main()
