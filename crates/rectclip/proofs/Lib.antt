@@ -1,5 +1,6 @@
 -- Laws that the functions' proofs cite.
 pub mod Reach
+pub mod CrossProducts
 pub mod Segments
 pub mod Limits
 pub mod Walking

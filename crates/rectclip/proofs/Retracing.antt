@@ -6,7 +6,6 @@ use mathlib.Core.Logic.{⊎-elim}
 use Prim.Native.Nat.{ℕ, suc, _+_, _<_, _≤_}
 use native.Mathlib.Omega.{arith}
 use native.Mathlib.Numerals.{add-one}
-use borrow.Author.Tests.{eqb-true}
 use lib.IntN.{ℤ}
 use lib.ListN.{length, getD, drop}
 use lib.Seq.{drop-cons, drop-length}
@@ -14,8 +13,9 @@ use Rattle.plane.specs.declared.rect.Rect64.{Rect64}
 use Rattle.plane.specs.declared.location.Location.{Location}
 use Rattle.plane.specs.declared.location.Location.the-variants.{Inside}
 use Rattle.plane.specs.Basics.{Try, refuse, ok, _>>=_}
-use Rattle.plane.specs.Locations.{side-number, same-location, heading-clockwise}
+use Rattle.plane.specs.Locations.{same-location, heading-clockwise}
 use Rattle.reference.specs.Walk.{Walk, State, add, add-corner-loc, retrace}
+use Rattle.theorems.proofs.Locations.{same-place}
 use Rattle.entry.specs.declared.answer.Refusal.{Refusal}
 use Rattle.rectclip.specs.declared.walk.WalkState.{WalkState}
 use Rattle.rectclip.specs.declared.walk.Step.{Step}
@@ -24,14 +24,10 @@ use Rattle.rectclip.specs.Memory.{at}
 use Rattle.rectclip.specs.Walking.{location, walk-of, turned, Fits, Stepped}
 use Rattle.rectclip.specs.Outlining.{corner-toward, close-walk}
 use Rattle.rectclip.proofs.Walking.{on-refuse, step-walked, step-refused, walked-is, refused-is, Going, going-start}
-use Rattle.rectclip.proofs.Turning.{location-number}
 use Rattle.rectclip.proofs.Closing.{step-as, roomed}
 use Rattle.rectclip.proofs.ClosedPass.{room}
 use Rattle.rectclip.proofs.Added.{either, added}
 use Rattle.rectclip.proofs.StartSides.{sides, sides-length, side-at}
-
-same-place : (p q : Location) → same-location p q ≡ true → p ≡ q
-same-place p q e = sym (location-number p) ∙ ap location (eqb-true (side-number p) (side-number q) e) ∙ location-number q
 
 -- ---- one corner
 module _ (full : ℕ → Bool) (rect : Rect64) (w : Walk) (p q : Location) where

@@ -6,17 +6,18 @@ use mathlib.Core.List.{List, [], _∷_, map}
 use Prim.Native.Nat.{ℕ, zero, suc, _+_, _<_, _≤_}
 use native.Mathlib.Omega.{arith}
 use native.Mathlib.Numerals.{add-one}
-use lib.Dec.{ltb}
+use lib.Dec.{ltb, leb, leb→le}
 use lib.IntN.{ℤ, pos, negsuc, _+ℤ_, _-ℤ_}
 use lib.ListN.{length, getD, drop, length-map, length-drop, List·getD-map}
 use lib.Seq.{drop-cons}
 use lib.Signed.{ltZ}
 use Rattle.integers.specs.Ring.{var, con, _⊕_, _⊖_, ring}
-use Rattle.integers.specs.Tests.{ltZ-sub}
+use Rattle.integers.specs.Tests.{T-of, ltZ-sub, eqZ, eqZ-true}
 use Rattle.plane.specs.declared.location.Location.{Location}
-use Rattle.plane.specs.declared.location.Location.the-variants.{Left, Top, Right, Bottom, Inside}
+use Rattle.plane.specs.declared.location.Location.the-variants.{Inside}
 use Rattle.plane.specs.Basics.{if_then_else_}
 use Rattle.plane.specs.Locations.{side-number, step-of, steps-of, start-locs-are-clockwise}
+use Rattle.theorems.proofs.Locations.{every, each}
 use Rattle.rectclip.specs.declared.outline.Turns.{Turns}
 use Rattle.rectclip.specs.Memory.{at, column}
 use Rattle.rectclip.specs.Walking.{location}
@@ -34,32 +35,15 @@ pub side-at : (n : ℕ) (work : List ℕ) (i : ℕ) → i < n → getD (sides n 
 side-at n work i h = List·getD-map location (column 5 n work) i 4 ∙ ap location (column-at 5 n work i 4 h)
 
 -- ---- a step along them
-step-is : (a b : Location) → step-of (pos (side-number b) -ℤ pos (side-number a)) ≡ (if steps-up a b then pos 1 else if steps-up b a then negsuc 0 else pos 0)
-step-is Left Left = refl
-step-is Left Top = refl
-step-is Left Right = refl
-step-is Left Bottom = refl
-step-is Left Inside = refl
-step-is Top Left = refl
-step-is Top Top = refl
-step-is Top Right = refl
-step-is Top Bottom = refl
-step-is Top Inside = refl
-step-is Right Left = refl
-step-is Right Top = refl
-step-is Right Right = refl
-step-is Right Bottom = refl
-step-is Right Inside = refl
-step-is Bottom Left = refl
-step-is Bottom Top = refl
-step-is Bottom Right = refl
-step-is Bottom Bottom = refl
-step-is Bottom Inside = refl
-step-is Inside Left = refl
-step-is Inside Top = refl
-step-is Inside Right = refl
-step-is Inside Bottom = refl
-step-is Inside Inside = refl
+-- the step as the code counts it
+abbrev counted-step : Location → Location → ℤ
+counted-step a b = if steps-up a b then pos 1 else if steps-up b a then negsuc 0 else pos 0
+
+all-steps : every (λ a. every (λ b. eqZ (step-of (pos (side-number b) -ℤ pos (side-number a))) (counted-step a b))) ≡ true
+all-steps = refl
+
+step-is : (a b : Location) → step-of (pos (side-number b) -ℤ pos (side-number a)) ≡ counted-step a b
+step-is a b = eqZ-true (each (λ y. eqZ (step-of (pos (side-number y) -ℤ pos (side-number a))) (counted-step a y)) (each (λ x. every (λ y. eqZ (step-of (pos (side-number y) -ℤ pos (side-number x))) (counted-step x y))) all-steps a) b)
 
 -- what the counts say so far
 abbrev net : Turns → ℤ
@@ -135,11 +119,7 @@ module _ {work : List ℕ} {n : ℕ} {t : Turns} {i : ℕ} (I : Counting work n 
 
 -- a side's number
 pub number-small : (loc : Location) → side-number loc ≤ 4
-number-small Left = omega arith
-number-small Top = omega arith
-number-small Right = omega arith
-number-small Bottom = omega arith
-number-small Inside = omega arith
+number-small loc = leb→le (side-number loc) 4 (T-of (each (λ l. leb (side-number l) 4) refl loc))
 
 -- the side of a number that was read
 pub location-is : (k : ℕ) {m n : ℕ} → m ≡ n → m ≡ k → location k ≡ location n

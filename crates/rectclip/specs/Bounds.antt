@@ -2,7 +2,7 @@
 use mathlib.Core.List.{List}
 use Prim.Native.Nat.{ℕ, _%_, _/_, _≤_, _<_}
 use lib.ListN.{length}
-use lib.IntN.{ℤ, natAbs}
+use lib.IntN.{ℤ, natAbs, _-ℤ_, _*ℤ_}
 use Rattle.plane.specs.Points.{points-of, pt-at}
 use mathlib.Core.Path.{_≡_}
 use mathlib.Core.Bool.{false}
@@ -15,6 +15,7 @@ use Rattle.plane.specs.declared.crossing.Search.the-variants.{Found}
 use Rattle.plane.specs.declared.location.Location.{Location}
 use Rattle.plane.specs.declared.point.Point64.{Point64}
 use Rattle.plane.specs.declared.rect.Rect64.{Rect64}
+use Rattle.rectclip.specs.declared.segment.Products.{Products}
 
 -- one unit past the limit: where a crossing is cut to whole numbers it may lie one unit outside the rectangle
 pub record Reached (p : Point64) : Type 0 where
@@ -26,6 +27,10 @@ pub record Turn (p q r : Point64) : Type 0 where
   pub first : Reached p
   pub second : Reached q
   pub third : Reached r
+
+-- the products of `cross_product_sign`
+abbrev pub cross-products : Point64 → Point64 → Point64 → Products
+cross-products p1 p2 p3 = record { ab = (p2 .x -ℤ p1 .x) *ℤ (p3 .y -ℤ p2 .y); cd = (p2 .y -ℤ p1 .y) *ℤ (p3 .x -ℤ p2 .x) }
 
 -- what a search for a crossing asks: rectangle and segment are within the limit
 pub record SearchLimits (r : Rect64) (p p2 : Point64) : Type 0 where

@@ -5,17 +5,23 @@ ghost use Rattle.plane.specs.Limit.{AllLimited};
 ghost use Rattle.plane.specs.Signs.{cross-product-sign, is-collinear, cross-product-is-negative, is-clockwise-dir};
 ghost use Rattle.plane.specs.Segment.{workingOf, crossingOf, pointAt, settledOf, intersection};
 ghost use Rattle.plane.specs.Found.{NearCrossing};
-ghost use Rattle.rectclip.specs.Bounds.{Turn};
+ghost use Rattle.rectclip.specs.Bounds.{Turn, cross-products};
 use plane::crossing::Crossing;
 use plane::crossing::Working;
 use plane::location::Location;
 use plane::point::Point64;
 use rounding::to_whole;
 
-// The sign of the cross product of the turn p1, p2, p3: 1, -1 or 0.
-pub(crate) fn cross_product_sign(p1: Point64, p2: Point64, p3: Point64) -> i64
+// The two products whose difference is the cross product of a turn.
+pub(crate) struct Products {
+    pub ab: i64,
+    pub cd: i64,
+}
+
+// The products of the turn p1, p2, p3.
+fn cross_products(p1: Point64, p2: Point64, p3: Point64) -> Products
     requires { ⌜ Turn p1 p2 p3 ⌝ }
-    ensures { λ r. ⌜ r ≡ cross-product-sign p1 p2 p3 ⌝ }
+    ensures { λ r. ⌜ r ≡ cross-products p1 p2 p3 ⌝ }
 {
     let a = p2.x - p1.x;
     let b = p3.y - p2.y;
@@ -23,9 +29,18 @@ pub(crate) fn cross_product_sign(p1: Point64, p2: Point64, p3: Point64) -> i64
     let d = p3.x - p2.x;
     let ab = a * b;
     let cd = c * d;
-    if cd < ab {
+    Products { ab, cd }
+}
+
+// The sign of the cross product of the turn p1, p2, p3: 1, -1 or 0.
+pub(crate) fn cross_product_sign(p1: Point64, p2: Point64, p3: Point64) -> i64
+    requires { ⌜ Turn p1 p2 p3 ⌝ }
+    ensures { λ r. ⌜ r ≡ cross-product-sign p1 p2 p3 ⌝ }
+{
+    let turn = cross_products(p1, p2, p3);
+    if turn.cd < turn.ab {
         1
-    } else if ab < cd {
+    } else if turn.ab < turn.cd {
         -1
     } else {
         0
@@ -37,11 +52,8 @@ pub(crate) fn is_collinear(p1: Point64, shared: Point64, p2: Point64) -> bool
     requires { ⌜ Turn p1 shared p2 ⌝ }
     ensures { λ r. ⌜ r ≡ is-collinear p1 shared p2 ⌝ }
 {
-    let a = shared.x - p1.x;
-    let b = p2.y - shared.y;
-    let c = shared.y - p1.y;
-    let d = p2.x - shared.x;
-    a * b == c * d
+    let turn = cross_products(p1, shared, p2);
+    turn.ab == turn.cd
 }
 
 // `cross_product_three_points < 0.0`.
@@ -49,11 +61,8 @@ pub(crate) fn cross_product_is_negative(p1: Point64, p2: Point64, p3: Point64) -
     requires { ⌜ Turn p1 p2 p3 ⌝ }
     ensures { λ r. ⌜ r ≡ cross-product-is-negative p1 p2 p3 ⌝ }
 {
-    let a = p2.x - p1.x;
-    let b = p3.y - p2.y;
-    let c = p2.y - p1.y;
-    let d = p3.x - p2.x;
-    a * b - c * d < 0
+    let turn = cross_products(p1, p2, p3);
+    turn.ab < turn.cd
 }
 
 // Whether the way from one location to another goes clockwise round the rectangle, whose mid point decides between opposite sides.

@@ -1,74 +1,41 @@
 -- Four passes are enough to go round the rectangle to a side.
 use mathlib.Core.Path.{_≡_, refl, sym, ap, _∙_, fun-ext}
-use mathlib.Core.Bool.{Bool, true, false, cond, _||_}
+use mathlib.Core.Bool.{Bool, true, false, cond, _&&_, _||_}
 use Prim.Native.Nat.{ℕ, zero, suc, _+_}
 use native.Mathlib.Omega.{arith}
 use Rattle.plane.specs.declared.rect.Rect64.{Rect64}
 use Rattle.plane.specs.declared.location.Location.{Location}
-use Rattle.plane.specs.declared.location.Location.the-variants.{Left, Top, Right, Bottom, Inside}
 use Rattle.plane.specs.Basics.{if_then_else_, Try, refuse, ok, _>>=_}
 use Rattle.plane.specs.Locations.{same-location, get-adjacent-location, is-inside}
 use Rattle.plane.specs.Rectangle.{corner}
 use Rattle.reference.specs.Walk.{Walk, add, push-start-loc, add-corner-loc, add-corners, push-start-locs}
 use Rattle.theorems.specs.Bounds.{CornersEnd, StartLocsEnd}
-use Rattle.theorems.proofs.Tests.{never}
+use Rattle.theorems.proofs.Tests.{never, both}
+use Rattle.theorems.proofs.Locations.{every, each}
 
 -- loc is met within n steps from p
 abbrev pub meets : ℕ → Location → Location → Bool → Bool
 meets zero p loc cw = false
 meets (suc n) p loc cw = let rest = meets n (get-adjacent-location p cw) loc cw in same-location (get-adjacent-location p cw) loc || rest
 
+-- loc is no side, or it is met within 4 + k steps both ways: computed for all locations
+abbrev met : ℕ → Location → Location → Bool
+met k p loc = is-inside loc || (meets (suc (suc (suc (suc k)))) p loc true && meets (suc (suc (suc (suc k)))) p loc false)
+
+all-met : (k : ℕ) → every (λ p. every (met k p)) ≡ true
+all-met k = refl
+
+one-way : (inside clockwise back cw : Bool) → inside ≡ false → (inside || (clockwise && back)) ≡ true → cond cw clockwise back ≡ true
+one-way true a b cw e h = never refl e
+one-way false a b true e h = both a b h .0
+one-way false a b false e h = both a b h .1
+
 pub four : (k : ℕ) (p loc : Location) (cw : Bool) → is-inside loc ≡ false → meets (suc (suc (suc (suc k)))) p loc cw ≡ true
-four k Left Left true e = refl
-four k Left Left false e = refl
-four k Left Top true e = refl
-four k Left Top false e = refl
-four k Left Right true e = refl
-four k Left Right false e = refl
-four k Left Bottom true e = refl
-four k Left Bottom false e = refl
-four k Left Inside true e = never refl e
-four k Left Inside false e = never refl e
-four k Top Left true e = refl
-four k Top Left false e = refl
-four k Top Top true e = refl
-four k Top Top false e = refl
-four k Top Right true e = refl
-four k Top Right false e = refl
-four k Top Bottom true e = refl
-four k Top Bottom false e = refl
-four k Top Inside true e = never refl e
-four k Top Inside false e = never refl e
-four k Right Left true e = refl
-four k Right Left false e = refl
-four k Right Top true e = refl
-four k Right Top false e = refl
-four k Right Right true e = refl
-four k Right Right false e = refl
-four k Right Bottom true e = refl
-four k Right Bottom false e = refl
-four k Right Inside true e = never refl e
-four k Right Inside false e = never refl e
-four k Bottom Left true e = refl
-four k Bottom Left false e = refl
-four k Bottom Top true e = refl
-four k Bottom Top false e = refl
-four k Bottom Right true e = refl
-four k Bottom Right false e = refl
-four k Bottom Bottom true e = refl
-four k Bottom Bottom false e = refl
-four k Bottom Inside true e = never refl e
-four k Bottom Inside false e = never refl e
-four k Inside Left true e = refl
-four k Inside Left false e = refl
-four k Inside Top true e = refl
-four k Inside Top false e = refl
-four k Inside Right true e = refl
-four k Inside Right false e = refl
-four k Inside Bottom true e = refl
-four k Inside Bottom false e = refl
-four k Inside Inside true e = never refl e
-four k Inside Inside false e = never refl e
+four k p loc cw e = go cw (one-way (is-inside loc) (meets (suc (suc (suc (suc k)))) p loc true) (meets (suc (suc (suc (suc k)))) p loc false) cw e (each (met k p) (each (λ q. every (met k q)) (all-met k) p) loc))
+  where
+    go : (way : Bool) → cond way (meets (suc (suc (suc (suc k)))) p loc true) (meets (suc (suc (suc (suc k)))) p loc false) ≡ true → meets (suc (suc (suc (suc k)))) p loc way ≡ true
+    go true h = h
+    go false h = h
 
 -- a loop that does `act` at a location, moves on, and stops at loc
 module _ (act : Walk → Location → Try Walk) (loc : Location) (cw : Bool) (loop : ℕ → Walk → Location → Try Walk)

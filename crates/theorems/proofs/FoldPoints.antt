@@ -1,5 +1,5 @@
 -- The walk as a fold over the points, its words, and one point of `get_next_location`.
-use mathlib.Core.Path.{_≡_, refl, _∙_, ap}
+use mathlib.Core.Path.{_≡_, refl, _∙_, ap, subst}
 use mathlib.Core.Bool.{Bool, true, false, cond}
 use mathlib.Core.List.{List, [], _∷_}
 use Prim.Native.Nat.{ℕ, _+_, _<_, _≤_}
@@ -20,7 +20,9 @@ use Rattle.reference.specs.Walk.{add, next-side, State, Pass, remain-outside, c
 use Rattle.theorems.proofs.GeoPlane.{loc}
 use Rattle.theorems.proofs.GeoWalk.{Step, skip, stop, step}
 use Rattle.theorems.proofs.GeoProgress.{In, Stop, stop-clash}
+use Rattle.theorems.proofs.Passes.{stop-in}
 use Rattle.theorems.proofs.Tests.{never}
+use Rattle.theorems.proofs.Locations.{same-place}
 
 -- ---- the definition, as it would stand in specs/Walk
 module _ (full : ℕ → Bool) (rect : Rect64) where
@@ -104,34 +106,7 @@ module _ (full : ℕ → Bool) (r : Rect64) where
   past-next l p e = ap (λ (z : Location). same-location z l) (next-is l p ∙ ap (after l) e) ∙ same-refl l
 
   pub differ : (p : Point64) (l l′ : Location) → Stop r p l l′ → (b : Bool) → same-location l′ l ≡ b → b ≡ false
-  differ p l l′ t true e = absurd (stop-clash t (same-in l l′ e (Rattle.theorems.proofs.Passes.stop-in r p t)))
-    where
-      same-in : (l l′ : Location) → same-location l′ l ≡ true → In r l′ p → In r l p
-      same-in Left Left e h = h
-      same-in Left Top e h = absurd (never e refl)
-      same-in Left Right e h = absurd (never e refl)
-      same-in Left Bottom e h = absurd (never e refl)
-      same-in Left Inside e h = absurd (never e refl)
-      same-in Top Left e h = absurd (never e refl)
-      same-in Top Top e h = h
-      same-in Top Right e h = absurd (never e refl)
-      same-in Top Bottom e h = absurd (never e refl)
-      same-in Top Inside e h = absurd (never e refl)
-      same-in Right Left e h = absurd (never e refl)
-      same-in Right Top e h = absurd (never e refl)
-      same-in Right Right e h = h
-      same-in Right Bottom e h = absurd (never e refl)
-      same-in Right Inside e h = absurd (never e refl)
-      same-in Bottom Left e h = absurd (never e refl)
-      same-in Bottom Top e h = absurd (never e refl)
-      same-in Bottom Right e h = absurd (never e refl)
-      same-in Bottom Bottom e h = h
-      same-in Bottom Inside e h = absurd (never e refl)
-      same-in Inside Left e h = absurd (never e refl)
-      same-in Inside Top e h = absurd (never e refl)
-      same-in Inside Right e h = absurd (never e refl)
-      same-in Inside Bottom e h = absurd (never e refl)
-      same-in Inside Inside e h = h
+  differ p l l′ t true e = absurd (stop-clash t (subst (λ (z : Location). In r z p) (same-place l′ l e) (stop-in r p t)))
   differ p l l′ t false e = refl
 
 -- ---- tests of numbers

@@ -1,5 +1,6 @@
 pub mod Crossed
 pub mod Tests
+pub mod Locations
 pub mod Holds
 pub mod Points
 pub mod Returned

@@ -1,3 +1,4 @@
+-- `get` meets its contract: what the list holds fits the answer.
 use Rattle.rectclip.specs.Memory.{at}
 use native.Mathlib.Omega.{arith}
 use Prim.Native.Nat.{_+_, _*_}

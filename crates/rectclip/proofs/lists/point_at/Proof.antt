@@ -1,3 +1,4 @@
+-- `point_at` meets its contract: two neighbouring coordinates are a point.
 use Rattle.rectclip.proofs.Coordinates.{points-at}
 use borrow.Author.Needs.{needs}
 use Rattle.rectclip.proofs.lists.point_at.Statement.{statement}

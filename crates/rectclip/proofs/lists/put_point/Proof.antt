@@ -1,3 +1,4 @@
+-- `put_point` meets its contract.
 use Rattle.rectclip.specs.Memory.{put-point}
 use borrow.Author.Needs.{needs}
 use Rattle.rectclip.proofs.lists.put_point.Statement.{statement}

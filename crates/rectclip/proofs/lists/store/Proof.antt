@@ -1,3 +1,4 @@
+-- `store` meets its contract.
 use Rattle.rectclip.specs.Memory.{put}
 use borrow.Author.Needs.{needs}
 use Rattle.rectclip.proofs.lists.store.Statement.{statement}

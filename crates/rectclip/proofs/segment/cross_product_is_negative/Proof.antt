@@ -1,53 +1,23 @@
--- `cross_product_is_negative` meets its contract.
-use mathlib.Core.List.{List, [], _∷_}
-use Prim.Native.Nat.{ℕ}
-use lib.IntN.{pos}
-use Rattle.integers.specs.Ring.{Ex, v0, v1, v2, v3, v4, v5, con, _⊖_, _⊗_}
-use Rattle.integers.specs.Bound.{Num, par, fits, lt-is}
+-- `cross_product_is_negative` meets its contract: a difference is negative where the first product is below the second.
+use mathlib.Core.Path.{sym, _∙_}
+use borrow.Author.Needs.{needs}
+use Rattle.integers.specs.Tests.{ltZ-sub′}
 use Rattle.plane.specs.Signs.{cross-product-is-negative}
+use Rattle.rectclip.specs.Bounds.{cross-products}
+use Rattle.rectclip.proofs.CrossProducts.{ab-below}
 use Rattle.rectclip.proofs.segment.cross_product_is_negative.Statement.{statement}
 use Rattle.rectclip.proofs.segment.cross_product_is_negative.Tie as tie
 
-abbrev B : ℕ
-B = 33554433
-
--- the points' numbers, with their bounds
-abbrev E : tie.Start → List Num
-E s =
-    let a = s .args in
-    let p = s .pre in
-    par (a .p1 .x) B (p .first .across) tt ∷ par (a .p1 .y) B (p .first .down) tt ∷ par (a .p2 .x) B (p .second .across) tt ∷ par (a .p2 .y) B (p .second .down) tt ∷ par (a .p3 .x) B (p .third .across) tt ∷ par (a .p3 .y) B (p .third .down) tt ∷ []
-
-abbrev AB : Ex
-AB = (v2 ⊖ v0) ⊗ (v5 ⊖ v3)
-
-abbrev CD : Ex
-CD = (v3 ⊖ v1) ⊗ (v4 ⊖ v2)
-
-sub-a : tie.Need-sub-a
-sub-a c = let s : tie.Start = search in fits (E s) (v2 ⊖ v0) tt
-
-sub-b : tie.Need-sub-b
-sub-b c = let s : tie.Start = search in fits (E s) (v5 ⊖ v3) tt
-
-sub-c : tie.Need-sub-c
-sub-c c = let s : tie.Start = search in fits (E s) (v3 ⊖ v1) tt
-
-sub-d : tie.Need-sub-d
-sub-d c = let s : tie.Start = search in fits (E s) (v4 ⊖ v2) tt
-
-mul-result : tie.Need-mul-result
-mul-result c = let s : tie.Start = search in fits (E s) AB tt
-
-mul-result-2 : tie.Need-mul-result-2
-mul-result-2 c = let s : tie.Start = search in fits (E s) CD tt
-
-sub-result : tie.Need-sub-result
-sub-result c = let s : tie.Start = search in fits (E s) (AB ⊖ CD) tt
+cross-products-requires : tie.Need-cross-products-requires
+cross-products-requires c κs = search needs
 
 returns : tie.Need-returns
 unfolding cross-product-is-negative
-returns c = let s : tie.Start = search in lt-is (E s) (AB ⊖ CD) (con (pos 0)) tt
+returns c =
+    let turn : tie.After-cross-products = search in
+    let s : tie.Start = search in
+    let exact = cross-products (s .args .p1) (s .args .p2) (s .args .p3) in
+    ab-below (s .pre) (turn .cross-products .ensures) ∙ sym (ltZ-sub′ (exact .cd) (exact .ab))
 
 pub cross-product-is-negative-spec : {M : Type 1} → statement M
-cross-product-is-negative-spec = tie.close (tie.spec sub-a sub-b sub-c sub-d mul-result mul-result-2 sub-result returns)
+cross-product-is-negative-spec = tie.close (tie.spec cross-products-requires returns)
