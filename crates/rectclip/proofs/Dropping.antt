@@ -38,53 +38,55 @@ alone-or n a b v h = elim (ℕ-discrete a b) [ yes e ↦ rw (eq-eqb a b e) (λ q
 -- ---- one pass
 module _ (pts : List Point64) {m : List ℕ} {s : Sizes} (op x : ℕ) (h : Holds m s) (op-in : op < s .nodes) (x-in : x < s .nodes) where
   -- the node stays
-  module _ (f : is-flat pts (arena-at m s) x ≡ false) (y : ℕ) (e : y ≡ next-of (arena-at m s) x) where
+  module _ {flat : Bool} (told : flat ≡ is-flat pts (arena-at m s) x) (f : flat ≡ false) (y : ℕ) (e : y ≡ next-of (arena-at m s) x) where
     pub drop-kept : Passed m m s (at-nodes op y) (drop-collinear-pass pts (arena-at m s) op x)
     unfolding drop-collinear-pass
-    drop-kept = rw f (record { leaves = same-arena h; op = refl; op2 = e; op-in = op-in; op2-in = λ _. rw e (h .valid .next-in x x-in) })
+    drop-kept = rw (← told, f) (record { leaves = same-arena h; op = refl; op2 = e; op-in = op-in; op2-in = λ _. rw e (h .valid .next-in x x-in) })
 
     pub straighten-kept : Passed m m s (at-nodes op y) (straighten-pass pts (arena-at m s) op x)
     unfolding straighten-pass
-    straighten-kept = rw f (record { leaves = same-arena h; op = refl; op2 = e; op-in = op-in; op2-in = λ _. rw e (h .valid .next-in x x-in) })
+    straighten-kept = rw (← told, f) (record { leaves = same-arena h; op = refl; op2 = e; op-in = op-in; op2-in = λ _. rw e (h .valid .next-in x x-in) })
 
-  -- the node is dropped
-  module _ (f : is-flat pts (arena-at m s) x ≡ true) {m′ : List ℕ} (u : Neighbours) (k : Unlinked m m′ s x u) where
+  -- the node is unlinked
+  module _ {m′ : List ℕ} (u : Neighbours) (k : Unlinked m m′ s x u) where
     pub dropped-in : Marked (s .nodes) (u .prev)
     dropped-in = rw (k .prev) (alone-or (s .nodes) (next-of (arena-at m s) x) x (prev-of (arena-at m s) x) (h .valid .prev-in x x-in))
 
     ahead-in : Marked (s .nodes) (u .next)
     ahead-in = rw (k .next) (alone-or (s .nodes) (next-of (arena-at m s) x) x (next-of (arena-at m s) x) (h .valid .next-in x x-in))
 
-    pub straighten-dropped : (p : ℕ) → p ≡ prev-of (arena-at m s) x → Passed m m′ s (at-nodes p (u .next)) (straighten-pass pts (arena-at m s) op x)
-    unfolding straighten-pass
-    straighten-dropped p e = rw f (record { leaves = k .leaves; op = e; op2 = k .next; op-in = rw e (h .valid .prev-in x x-in); op2-in = ahead-in })
+    -- and dropped
+    module _ {flat : Bool} (told : flat ≡ is-flat pts (arena-at m s) x) (f : flat ≡ true) where
+      pub straighten-dropped : (p : ℕ) → p ≡ prev-of (arena-at m s) x → Passed m m′ s (at-nodes p (u .next)) (straighten-pass pts (arena-at m s) op x)
+      unfolding straighten-pass
+      straighten-dropped p e = rw (← told, f) (record { leaves = k .leaves; op = e; op2 = k .next; op-in = rw e (h .valid .prev-in x x-in); op2-in = ahead-in })
 
-    -- the test for the start that moves back
-    moves : Bool
-    moves = eqb x op && not (eqb (unlink-op-back (arena-at m s) x) none)
+      -- the test for the start that moves back
+      moves : Bool
+      moves = eqb x op && not (eqb (unlink-op-back (arena-at m s) x) none)
 
-    stays-by : moves ≡ false → Passed m m′ s (at-nodes op (u .prev)) (drop-collinear-pass pts (arena-at m s) op x)
-    unfolding drop-collinear-pass moves
-    stays-by e = rw f (rw e (record { leaves = k .leaves; op = refl; op2 = k .prev; op-in = op-in; op2-in = dropped-in }))
+      stays-by : moves ≡ false → Passed m m′ s (at-nodes op (u .prev)) (drop-collinear-pass pts (arena-at m s) op x)
+      unfolding drop-collinear-pass moves
+      stays-by e = rw (← told, f) (rw e (record { leaves = k .leaves; op = refl; op2 = k .prev; op-in = op-in; op2-in = dropped-in }))
 
-    moves-by : moves ≡ true → (p : ℕ) → p ≡ prev-of (arena-at m′ s) (u .prev) → p < s .nodes → Passed m m′ s (at-nodes p (u .prev)) (drop-collinear-pass pts (arena-at m s) op x)
-    unfolding drop-collinear-pass moves
-    moves-by e p g l =
-        rw f (rw e (record { leaves = k .leaves; op = g ∙ (λ i. prev-of (k .leaves .is i) (k .prev i)); op2 = k .prev; op-in = l; op2-in = dropped-in }))
+      moves-by : moves ≡ true → (p : ℕ) → p ≡ prev-of (arena-at m′ s) (u .prev) → p < s .nodes → Passed m m′ s (at-nodes p (u .prev)) (drop-collinear-pass pts (arena-at m s) op x)
+      unfolding drop-collinear-pass moves
+      moves-by e p g l =
+          rw (← told, f) (rw e (record { leaves = k .leaves; op = g ∙ (λ i. prev-of (k .leaves .is i) (k .prev i)); op2 = k .prev; op-in = l; op2-in = dropped-in }))
 
-    pub drop-moved : x ≡ op → (u .prev ≡ none → ⊥) → (p : ℕ) → p ≡ prev-of (arena-at m′ s) (u .prev) → Passed m m′ s (at-nodes p (u .prev)) (drop-collinear-pass pts (arena-at m s) op x)
-    unfolding moves
-    drop-moved e q p g =
-        moves-by (rw (eq-eqb x op e, ne-eqb (unlink-op-back (arena-at m s) x) none (λ w. q (k .prev ∙ w))) refl) p g
-        (rw g (k .leaves .holds .valid .prev-in (u .prev) (dropped-in q)))
+      pub drop-moved : x ≡ op → (u .prev ≡ none → ⊥) → (p : ℕ) → p ≡ prev-of (arena-at m′ s) (u .prev) → Passed m m′ s (at-nodes p (u .prev)) (drop-collinear-pass pts (arena-at m s) op x)
+      unfolding moves
+      drop-moved e q p g =
+          moves-by (rw (eq-eqb x op e, ne-eqb (unlink-op-back (arena-at m s) x) none (λ w. q (k .prev ∙ w))) refl) p g
+          (rw g (k .leaves .holds .valid .prev-in (u .prev) (dropped-in q)))
 
-    pub drop-last : u .prev ≡ none → Passed m m′ s (at-nodes op (u .prev)) (drop-collinear-pass pts (arena-at m s) op x)
-    unfolding moves
-    drop-last q = stays-by (rw (eq-eqb (unlink-op-back (arena-at m s) x) none (sym (k .prev) ∙ q)) (and-false (eqb x op)))
+      pub drop-last : u .prev ≡ none → Passed m m′ s (at-nodes op (u .prev)) (drop-collinear-pass pts (arena-at m s) op x)
+      unfolding moves
+      drop-last q = stays-by (rw (eq-eqb (unlink-op-back (arena-at m s) x) none (sym (k .prev) ∙ q)) (and-false (eqb x op)))
 
-    pub drop-other : (x ≡ op → ⊥) → Passed m m′ s (at-nodes op (u .prev)) (drop-collinear-pass pts (arena-at m s) op x)
-    unfolding moves
-    drop-other q = stays-by (rw (ne-eqb x op q) refl)
+      pub drop-other : (x ≡ op → ⊥) → Passed m m′ s (at-nodes op (u .prev)) (drop-collinear-pass pts (arena-at m s) op x)
+      unfolding moves
+      drop-other q = stays-by (rw (ne-eqb x op q) refl)
 
 -- ---- the loop of check_edges
 module _ (pts : List Point64) where

@@ -81,7 +81,7 @@ module _ {store : List ℤ} {m : List ℕ} {s : Sizes} {idx i len : ℕ} (x : Id
   -- the two edges do not overlap
   pub idled-apart : j < len → Sought (arena-at m s) (idx * 2 + 1) j j → (r2 : ℕ) → r2 ≡ getD (edge-list (arena-at m s) (idx * 2 + 1)) j none
       → (f : Four) → Fourth (s .nodes) f (four-of (cw-is-toward-larger idx) (arena-at m s) r1 r2)
-      → overlap (points-in store (s .nodes)) (is-horz idx) (four f) ≡ false → Idled (points-in store (s .nodes)) idx (arena-at m s) left₀ i₀ j₀ (left - 1) i (j + 1)
-  idled-apart h k r2 e2 f v o =
+      → {meets : Bool} → meets ≡ overlap (points-in store (s .nodes)) (is-horz idx) (four f) → meets ≡ false → Idled (points-in store (s .nodes)) idx (arena-at m s) left₀ i₀ j₀ (left - 1) i (j + 1)
+  idled-apart h k r2 e2 f v w o =
       idled-turn I z inside i (j + 1)
-      (turned-is (turn-apart (x .turning) i j r1 e1 (live-some (arena-at m s) r1 live) (live-ring (arena-at m s) r1 live) j k (omega (arith, x .len-is)) r2 e2 f v o .turned))
+      (turned-is (turn-apart (x .turning) i j r1 e1 (live-some (arena-at m s) r1 live) (live-ring (arena-at m s) r1 live) j k (omega (arith, x .len-is)) r2 e2 f v w o .turned))

@@ -113,20 +113,21 @@ moved {m} {s = s} e op h f g k l = record {
 
 -- ---- settle
 module _ {m m′ : List ℕ} {s : Sizes} (pts : List Point64) (idx i j op op2 : ℕ) (t : Turn) where
-  pub settled-first : is-spent pts 0 (arena-at m s) op ≡ true → Settled m m′ s t (keep-one pts idx (arena-at m s) i j op2) → Settled m m′ s t (settle pts idx (arena-at m s) i j op op2)
-  unfolding settle
-  settled-first e k = rw e k
-
-  module _ (e : is-spent pts 0 (arena-at m s) op ≡ false) where
-    pub settled-second : is-spent pts 0 (arena-at m s) op2 ≡ true → Settled m m′ s t (keep-one pts idx (arena-at m s) i j op) → Settled m m′ s t (settle pts idx (arena-at m s) i j op op2)
+  module _ {c : Bool} (told : c ≡ is-spent pts 0 (arena-at m s) op) where
+    pub settled-first : c ≡ true → Settled m m′ s t (keep-one pts idx (arena-at m s) i j op2) → Settled m m′ s t (settle pts idx (arena-at m s) i j op op2)
     unfolding settle
-    settled-second f k = rw (e, f) k
+    settled-first e k = rw (← told, e) k
 
-    module _ (f : is-spent pts 0 (arena-at m s) op2 ≡ false) (b b2 : Bool) (w : b ≡ is-larger pts idx (arena-at m s) op) (w2 : b2 ≡ is-larger pts idx (arena-at m s) op2) where
-      pub settled-both : Bool·beq b b2 ≡ true → Settled m m′ s t (keep-both pts idx (arena-at m s) i j op op2) → Settled m m′ s t (settle pts idx (arena-at m s) i j op op2)
+    module _ (e : c ≡ false) {c2 : Bool} (told2 : c2 ≡ is-spent pts 0 (arena-at m s) op2) where
+      pub settled-second : c2 ≡ true → Settled m m′ s t (keep-one pts idx (arena-at m s) i j op) → Settled m m′ s t (settle pts idx (arena-at m s) i j op op2)
       unfolding settle
-      settled-both q k = rw (e, f, ← w, ← w2, q) k
+      settled-second f k = rw (← told, e, ← told2, f) k
 
-      pub settled-each : Bool·beq b b2 ≡ false → Settled m m′ s t (keep-each pts idx (arena-at m s) i j op op2) → Settled m m′ s t (settle pts idx (arena-at m s) i j op op2)
-      unfolding settle
-      settled-each q k = rw (e, f, ← w, ← w2, q) k
+      module _ (f : c2 ≡ false) (b b2 : Bool) (w : b ≡ is-larger pts idx (arena-at m s) op) (w2 : b2 ≡ is-larger pts idx (arena-at m s) op2) where
+        pub settled-both : Bool·beq b b2 ≡ true → Settled m m′ s t (keep-both pts idx (arena-at m s) i j op op2) → Settled m m′ s t (settle pts idx (arena-at m s) i j op op2)
+        unfolding settle
+        settled-both q k = rw (← told, e, ← told2, f, ← w, ← w2, q) k
+
+        pub settled-each : Bool·beq b b2 ≡ false → Settled m m′ s t (keep-each pts idx (arena-at m s) i j op op2) → Settled m m′ s t (settle pts idx (arena-at m s) i j op op2)
+        unfolding settle
+        settled-each q k = rw (← told, e, ← told2, f, ← w, ← w2, q) k

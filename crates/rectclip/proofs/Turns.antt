@@ -185,11 +185,11 @@ module _ {store : List ℤ} {m : List ℕ} {s : Sizes} {idx : ℕ} (x : Turning 
         long : leb (length (edge-list (arena-at m s) (idx * 2 + 1))) k ≡ false
         long = lt-leb (length (edge-list (arena-at m s) (idx * 2 + 1))) k (omega (arith, list-length m s (x .holds .eight) (idx * 2 + 1) (omega (arith, x .side-in))))
 
-        pub turn-apart : overlap (points-in store (s .nodes)) (is-horz idx) (four f) ≡ false → Whole m m s (turn-at s i (k + 1)) (one-turn (points-in store (s .nodes)) idx (arena-at m s) i j)
+        pub turn-apart : {meets : Bool} → meets ≡ overlap (points-in store (s .nodes)) (is-horz idx) (four f) → meets ≡ false → Whole m m s (turn-at s i (k + 1)) (one-turn (points-in store (s .nodes)) idx (arena-at m s) i j)
         unfolding turn-by
-        turn-apart o = untouched i (k + 1) (rw (ne-eqb r1 none q, t, long, o) at read)
+        turn-apart w o = untouched i (k + 1) (rw (ne-eqb r1 none q, t, long, ← w, o) at read)
 
-        pub turn-rejoined : overlap (points-in store (s .nodes)) (is-horz idx) (four f) ≡ true → {m₁ : List ℕ} (u : Turn)
+        pub turn-rejoined : {meets : Bool} → meets ≡ overlap (points-in store (s .nodes)) (is-horz idx) (four f) → meets ≡ true → {m₁ : List ℕ} (u : Turn)
             → Whole m m₁ s u (rejoin (points-in store (s .nodes)) idx (arena-at m s) i k r1 r2 (four f)) → Whole m m₁ s u (one-turn (points-in store (s .nodes)) idx (arena-at m s) i j)
         unfolding turn-by
-        turn-rejoined o {m₁} u y = subst (λ b. Whole m m₁ s u b) (rw (ne-eqb r1 none q, t, long, o) at read) y
+        turn-rejoined w o {m₁} u y = subst (λ b. Whole m m₁ s u b) (rw (ne-eqb r1 none q, t, long, ← w, o) at read) y

@@ -1,6 +1,5 @@
 -- `rectclip::idle::idle_along` meets its contract: each pass is a turn of the definition that changes nothing.
 use native.Mathlib.Omega.{arith}
-use mathlib.Core.Path.{sym, _∙_}
 use Prim.Native.Nat.{_+_, _*_}
 use Rattle.rectclip.specs.Arenas.{arena-at}
 use Rattle.rectclip.specs.Stored.{points-in}
@@ -101,7 +100,7 @@ loop-again c =
     let e : tie.After-entry-of Inv-loop μ-loop = search in
     let s : tie.Start Inv-loop μ-loop = search in
     let on = idled-sought (at .loop .inv) (sought .seek .ensures) in
-    idled-apart (s .pre) on (inl .loop-test .taken) (e .entry-of .result) (e .entry-of .ensures) (else1 .if1 .left) (sought-there (sought .seek .ensures)) (e2 .entry-of2 .result) (e2 .entry-of2 .ensures) (f .four-of .result) (f .four-of .ensures) (sym (o .overlap .ensures) ∙ c .if2 .left)
+    idled-apart (s .pre) on (inl .loop-test .taken) (e .entry-of .result) (e .entry-of .ensures) (else1 .if1 .left) (sought-there (sought .seek .ensures)) (e2 .entry-of2 .result) (e2 .entry-of2 .ensures) (f .four-of .result) (f .four-of .ensures) (o .overlap .ensures) (c .if2 .left)
 
 returns-3 : tie.Need-returns-3 Inv-loop μ-loop
 returns-3 c = c .before .loop .inv

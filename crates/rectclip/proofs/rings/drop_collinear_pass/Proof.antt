@@ -1,5 +1,4 @@
 -- `rectclip::rings::drop_collinear_pass` meets its contract, one law for each way.
-use mathlib.Core.Path.{sym, _∙_}
 use Rattle.rectclip.specs.Stored.{points-in}
 use Rattle.rectclip.proofs.Dropping.{drop-kept, drop-moved, drop-last, drop-other, dropped-in}
 use borrow.Author.Needs.{needs}
@@ -16,10 +15,8 @@ prev-of-requires : tie.Need-prev-of-requires
 prev-of-requires c κs =
     let a-unlink : tie.After-unlink = search in
     let s : tie.Start = search in
-    let a-is-flat : tie.After-is-flat = search in
-    let then1 : tie.Then1 = search in
     let then3 : tie.Then3 = search in
-    (a-unlink .unlink .ensures .leaves .holds, dropped-in (points-in (s .args .store .now) (s .args .s .nodes)) (s .args .op) (s .args .op2) (s .pre .holds) (s .pre .op-in) (s .pre .op2-in) (sym (a-is-flat .is-flat .ensures) ∙ then1 .if1 .taken) (a-unlink .unlink .result) (a-unlink .unlink .ensures) (then3 .if3 .taken))
+    (a-unlink .unlink .ensures .leaves .holds, dropped-in (points-in (s .args .store .now) (s .args .s .nodes)) (s .args .op) (s .args .op2) (s .pre .holds) (s .pre .op-in) (s .pre .op2-in) (a-unlink .unlink .result) (a-unlink .unlink .ensures) (then3 .if3 .taken))
 
 same-length : tie.Need-same-length
 same-length c = search needs
@@ -33,7 +30,7 @@ returns c =
     let then2 : tie.Then2 = search in
     let then3 : tie.Then3 = search in
     let a-prev-of : tie.After-prev-of = search in
-    drop-moved _ (s .args .op) (s .args .op2) (s .pre .holds) (s .pre .op-in) (s .pre .op2-in) (sym (a-is-flat .is-flat .ensures) ∙ then1 .if1 .taken) (a-unlink .unlink .result) (a-unlink .unlink .ensures) (then2 .if2 .taken) (then3 .if3 .taken) (a-prev-of .prev-of .result) (a-prev-of .prev-of .ensures)
+    drop-moved _ (s .args .op) (s .args .op2) (s .pre .holds) (s .pre .op-in) (s .pre .op2-in) (a-unlink .unlink .result) (a-unlink .unlink .ensures) (a-is-flat .is-flat .ensures) (then1 .if1 .taken) (then2 .if2 .taken) (then3 .if3 .taken) (a-prev-of .prev-of .result) (a-prev-of .prev-of .ensures)
 
 same-length-2 : tie.Need-same-length-2
 same-length-2 c = search needs
@@ -45,7 +42,7 @@ returns-2 c =
     let then1 : tie.Then1 = search in
     let a-unlink : tie.After-unlink = search in
     let else3 : tie.Else3 = search in
-    drop-last _ (s .args .op) (s .args .op2) (s .pre .holds) (s .pre .op-in) (s .pre .op2-in) (sym (a-is-flat .is-flat .ensures) ∙ then1 .if1 .taken) (a-unlink .unlink .result) (a-unlink .unlink .ensures) (else3 .if3 .left)
+    drop-last _ (s .args .op) (s .args .op2) (s .pre .holds) (s .pre .op-in) (s .pre .op2-in) (a-unlink .unlink .result) (a-unlink .unlink .ensures) (a-is-flat .is-flat .ensures) (then1 .if1 .taken) (else3 .if3 .left)
 
 same-length-3 : tie.Need-same-length-3
 same-length-3 c = search needs
@@ -57,7 +54,7 @@ returns-3 c =
     let then1 : tie.Then1 = search in
     let a-unlink : tie.After-unlink = search in
     let else2 : tie.Else2 = search in
-    drop-other _ (s .args .op) (s .args .op2) (s .pre .holds) (s .pre .op-in) (s .pre .op2-in) (sym (a-is-flat .is-flat .ensures) ∙ then1 .if1 .taken) (a-unlink .unlink .result) (a-unlink .unlink .ensures) (else2 .if2 .left)
+    drop-other _ (s .args .op) (s .args .op2) (s .pre .holds) (s .pre .op-in) (s .pre .op2-in) (a-unlink .unlink .result) (a-unlink .unlink .ensures) (a-is-flat .is-flat .ensures) (then1 .if1 .taken) (else2 .if2 .left)
 
 next-of-requires : tie.Need-next-of-requires
 next-of-requires c κs = search needs
@@ -71,7 +68,7 @@ returns-4 c =
     let a-is-flat : tie.After-is-flat = search in
     let else1 : tie.Else1 = search in
     let a-next-of : tie.After-next-of = search in
-    drop-kept _ (s .args .op) (s .args .op2) (s .pre .holds) (s .pre .op-in) (s .pre .op2-in) (sym (a-is-flat .is-flat .ensures) ∙ else1 .if1 .left) (a-next-of .next-of .result) (a-next-of .next-of .ensures)
+    drop-kept _ (s .args .op) (s .args .op2) (s .pre .holds) (s .pre .op-in) (s .pre .op2-in) (a-is-flat .is-flat .ensures) (else1 .if1 .left) (a-next-of .next-of .result) (a-next-of .next-of .ensures)
 
 pub drop-collinear-pass-spec : {M : Type 1} → statement M
 drop-collinear-pass-spec =

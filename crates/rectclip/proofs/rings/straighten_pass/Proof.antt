@@ -1,5 +1,4 @@
 -- `rectclip::rings::straighten_pass` meets its contract, one law for each way.
-use mathlib.Core.Path.{sym, _∙_}
 use Rattle.rectclip.proofs.Dropping.{straighten-kept, straighten-dropped}
 use borrow.Author.Needs.{needs}
 use Rattle.rectclip.proofs.rings.straighten_pass.Statement.{statement}
@@ -24,7 +23,7 @@ returns c =
     let then1 : tie.Then1 = search in
     let a-unlink : tie.After-unlink = search in
     let a-prev-of : tie.After-prev-of = search in
-    straighten-dropped _ (s .args .op) (s .args .op2) (s .pre .holds) (s .pre .op-in) (s .pre .op2-in) (sym (a-is-flat .is-flat .ensures) ∙ then1 .if1 .taken) (a-unlink .unlink .result) (a-unlink .unlink .ensures) (a-prev-of .prev-of .result) (a-prev-of .prev-of .ensures)
+    straighten-dropped _ (s .args .op) (s .args .op2) (s .pre .holds) (s .pre .op-in) (s .pre .op2-in) (a-unlink .unlink .result) (a-unlink .unlink .ensures) (a-is-flat .is-flat .ensures) (then1 .if1 .taken) (a-prev-of .prev-of .result) (a-prev-of .prev-of .ensures)
 
 next-of-requires : tie.Need-next-of-requires
 next-of-requires c κs = search needs
@@ -38,7 +37,7 @@ returns-2 c =
     let a-is-flat : tie.After-is-flat = search in
     let else1 : tie.Else1 = search in
     let a-next-of : tie.After-next-of = search in
-    straighten-kept _ (s .args .op) (s .args .op2) (s .pre .holds) (s .pre .op-in) (s .pre .op2-in) (sym (a-is-flat .is-flat .ensures) ∙ else1 .if1 .left) (a-next-of .next-of .result) (a-next-of .next-of .ensures)
+    straighten-kept _ (s .args .op) (s .args .op2) (s .pre .holds) (s .pre .op-in) (s .pre .op2-in) (a-is-flat .is-flat .ensures) (else1 .if1 .left) (a-next-of .next-of .result) (a-next-of .next-of .ensures)
 
 pub straighten-pass-spec : {M : Type 1} → statement M
 straighten-pass-spec =

@@ -1,5 +1,4 @@
 -- `rectclip::settle::settle` meets its contract, one law for each way.
-use mathlib.Core.Path.{sym, _∙_}
 use Rattle.rectclip.specs.Stored.{points-in}
 use Rattle.rectclip.proofs.Settling.{looking, looking2, settling-one, settling-two, settled-first, settled-second, settled-both, settled-each}
 use borrow.Author.Needs.{needs}
@@ -23,7 +22,7 @@ returns c =
     let then1 : tie.Then1 = search in
     let i : tie.After-is-spent = search in
     let s : tie.Start = search in
-    settled-first (points-in (s .args .store .now) (s .args .s .nodes)) (s .args .idx) (s .args .i) (s .args .j) (s .args .op) (s .args .op2) (k .keep-one .result) (sym (i .is-spent .ensures) ∙ then1 .if1 .taken) (k .keep-one .ensures)
+    settled-first (points-in (s .args .store .now) (s .args .s .nodes)) (s .args .idx) (s .args .i) (s .args .j) (s .args .op) (s .args .op2) (k .keep-one .result) (i .is-spent .ensures) (then1 .if1 .taken) (k .keep-one .ensures)
 
 is-spent-requires-2 : tie.Need-is-spent-requires-2
 is-spent-requires-2 c κs =
@@ -46,7 +45,7 @@ returns-2 c =
     let else1 : tie.Else1 = search in
     let i : tie.After-is-spent = search in
     let s : tie.Start = search in
-    settled-second (points-in (s .args .store .now) (s .args .s .nodes)) (s .args .idx) (s .args .i) (s .args .j) (s .args .op) (s .args .op2) (k2 .keep-one2 .result) (sym (i .is-spent .ensures) ∙ else1 .if1 .left) (sym (i2 .is-spent2 .ensures) ∙ then2 .if2 .taken) (k2 .keep-one2 .ensures)
+    settled-second (points-in (s .args .store .now) (s .args .s .nodes)) (s .args .idx) (s .args .i) (s .args .j) (s .args .op) (s .args .op2) (k2 .keep-one2 .result) (i .is-spent .ensures) (else1 .if1 .left) (i2 .is-spent2 .ensures) (then2 .if2 .taken) (k2 .keep-one2 .ensures)
 
 is-larger-requires : tie.Need-is-larger-requires
 is-larger-requires c κs =
@@ -77,7 +76,7 @@ returns-3 c =
     let else1 : tie.Else1 = search in
     let spent : tie.After-is-spent = search in
     let s : tie.Start = search in
-    settled-both (points-in (s .args .store .now) (s .args .s .nodes)) (s .args .idx) (s .args .i) (s .args .j) (s .args .op) (s .args .op2) (k .keep-both .result) (sym (spent .is-spent .ensures) ∙ else1 .if1 .left) (sym (spent2 .is-spent2 .ensures) ∙ else2 .if2 .left) (larger .is-larger .result) (larger2 .is-larger2 .result) (larger .is-larger .ensures) (larger2 .is-larger2 .ensures) (then3 .if3 .taken) (k .keep-both .ensures)
+    settled-both (points-in (s .args .store .now) (s .args .s .nodes)) (s .args .idx) (s .args .i) (s .args .j) (s .args .op) (s .args .op2) (k .keep-both .result) (spent .is-spent .ensures) (else1 .if1 .left) (spent2 .is-spent2 .ensures) (else2 .if2 .left) (larger .is-larger .result) (larger2 .is-larger2 .result) (larger .is-larger .ensures) (larger2 .is-larger2 .ensures) (then3 .if3 .taken) (k .keep-both .ensures)
 
 keep-each-requires : tie.Need-keep-each-requires
 keep-each-requires c κs =
@@ -98,7 +97,7 @@ returns-4 c =
     let else1 : tie.Else1 = search in
     let spent : tie.After-is-spent = search in
     let s : tie.Start = search in
-    settled-each (points-in (s .args .store .now) (s .args .s .nodes)) (s .args .idx) (s .args .i) (s .args .j) (s .args .op) (s .args .op2) (k .keep-each .result) (sym (spent .is-spent .ensures) ∙ else1 .if1 .left) (sym (spent2 .is-spent2 .ensures) ∙ else2 .if2 .left) (larger .is-larger .result) (larger2 .is-larger2 .result) (larger .is-larger .ensures) (larger2 .is-larger2 .ensures) (else3 .if3 .left) (k .keep-each .ensures)
+    settled-each (points-in (s .args .store .now) (s .args .s .nodes)) (s .args .idx) (s .args .i) (s .args .j) (s .args .op) (s .args .op2) (k .keep-each .result) (spent .is-spent .ensures) (else1 .if1 .left) (spent2 .is-spent2 .ensures) (else2 .if2 .left) (larger .is-larger .result) (larger2 .is-larger2 .result) (larger .is-larger .ensures) (larger2 .is-larger2 .ensures) (else3 .if3 .left) (k .keep-each .ensures)
 
 pub settle-spec : {M : Type 1} → statement M
 settle-spec =

@@ -143,7 +143,7 @@ returns-4 c =
     let else1 : tie.Else1 = search in
     let e : tie.After-entry-of = search in
     let s : tie.Start = search in
-    turn-rejoined (s .pre .0) (s .args .i) (s .args .j) (e .entry-of .result) (e .entry-of .ensures) (else1 .if1 .left) (sym (is .is-stub .ensures) ∙ else2 .if2 .left) (sought .seek .result) (sought .seek .ensures) (else3 .if3 .left) (e2 .entry-of2 .result) (e2 .entry-of2 .ensures) (f .four-of .result) (f .four-of .ensures) (sym (o .overlap .ensures) ∙ then4 .if4 .taken) (r .rejoin .result) (r .rejoin .ensures)
+    turn-rejoined (s .pre .0) (s .args .i) (s .args .j) (e .entry-of .result) (e .entry-of .ensures) (else1 .if1 .left) (sym (is .is-stub .ensures) ∙ else2 .if2 .left) (sought .seek .result) (sought .seek .ensures) (else3 .if3 .left) (e2 .entry-of2 .result) (e2 .entry-of2 .ensures) (f .four-of .result) (f .four-of .ensures) (o .overlap .ensures) (then4 .if4 .taken) (r .rejoin .result) (r .rejoin .ensures)
 
 add-t29 : tie.Need-add-t29
 add-t29 c =
@@ -166,7 +166,7 @@ returns-5 c =
     let else1 : tie.Else1 = search in
     let e : tie.After-entry-of = search in
     let s : tie.Start = search in
-    turn-apart (s .pre .0) (s .args .i) (s .args .j) (e .entry-of .result) (e .entry-of .ensures) (else1 .if1 .left) (sym (is .is-stub .ensures) ∙ else2 .if2 .left) (sought .seek .result) (sought .seek .ensures) (else3 .if3 .left) (e2 .entry-of2 .result) (e2 .entry-of2 .ensures) (f .four-of .result) (f .four-of .ensures) (sym (o .overlap .ensures) ∙ c .if4 .left)
+    turn-apart (s .pre .0) (s .args .i) (s .args .j) (e .entry-of .result) (e .entry-of .ensures) (else1 .if1 .left) (sym (is .is-stub .ensures) ∙ else2 .if2 .left) (sought .seek .result) (sought .seek .ensures) (else3 .if3 .left) (e2 .entry-of2 .result) (e2 .entry-of2 .ensures) (f .four-of .result) (f .four-of .ensures) (o .overlap .ensures) (c .if4 .left)
 
 pub one-turn-spec : {M : Type 1} → statement M
 one-turn-spec =
