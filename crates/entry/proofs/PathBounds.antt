@@ -14,12 +14,12 @@ use lib.Signed.{ltZ, _≤ℤ_, _<ℤ_}
 use Rattle.integers.specs.Order.{zint, abs-pn, parts}
 use Rattle.integers.specs.Tests.{ltZ-true, ltZ-false, lt-ltZ, cond-true}
 use Rattle.plane.specs.Basics.{if_then_else_}
-use Rattle.plane.specs.Limit.{in-limit, all-in-limit, rect-in-limit}
+use Rattle.plane.specs.Limit.{in-limit, all-in-limit, rect-in-limit, LimitedRect}
 use Rattle.plane.specs.Points.{point, points-of}
 use Rattle.plane.specs.Rectangle.{grown, bounds-from, no-bounds, get-bounds-path}
+use Rattle.plane.proofs.Limits.{rect-limited}
 use Rattle.plane.specs.declared.point.Point64.{Point64}
 use Rattle.plane.specs.declared.rect.Rect64.{Rect64}
-use Rattle.theorems.proofs.Demand.{LimitedRect, rect-limited}
 
 -- ---- the loop
 -- one turn

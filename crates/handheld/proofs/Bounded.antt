@@ -12,18 +12,18 @@ use lib.Signed.{_≤ℤ_}
 use borrow.Author.Tests.{ltb-false}
 use Rattle.integers.specs.Tests.{T-of}
 use Rattle.integers.specs.Order.{zint, add-pn, sub-pn}
+use Rattle.plane.proofs.Limits.{rect-limited}
 use Rattle.plane.specs.declared.point.Point64.{Point64}
 use Rattle.plane.specs.declared.rect.Rect64.{Rect64}
 use Rattle.plane.specs.Basics.{Try, refuse, ok, _>>=_}
 use Rattle.plane.specs.Points.{points-of}
-use Rattle.plane.specs.Limit.{rect-in-limit, all-in-limit}
+use Rattle.plane.specs.Limit.{rect-in-limit, all-in-limit, LimitedRect}
 use Rattle.plane.specs.Rectangle.{is-empty, intersects, contains-rect, get-bounds-path}
 use Rattle.reference.specs.Walk.{no-room}
 use Rattle.reference.specs.Clip.{execute}
 use Rattle.reference.specs.Lines.{execute-lines}
 use Rattle.reference.specs.Entry.{Drawing, joined, sheet-refusal}
 use Rattle.theorems.specs.Demand.{AtMostOneOutside, Sourced, is-walked}
-use Rattle.theorems.proofs.Demand.{LimitedRect, rect-limited}
 use Rattle.theorems.proofs.ClosedArea.{call-bounded, demand-3}
 use Rattle.theorems.proofs.FewPoints.{few-points}
 use Rattle.theorems.proofs.FewResults.{few-results}

@@ -1,6 +1,6 @@
 -- Worked uses of `omega (zint, ..)`, `lin` and `omega ztest`: orders, sums, ranges and tests of the code.
 use mathlib.Core.Path.{_≡_}
-use Prim.Native.Nat.{_+_, _*_, _≤_, _<_}
+use Prim.Native.Nat.{_≤_}
 use lib.IntN.{ℤ, pos, negsuc, natAbs, _+ℤ_, _-ℤ_, _*ℤ_}
 use lib.Signed.{_≤ℤ_, _<ℤ_}
 use mathlib.Core.List.{[], _∷_}

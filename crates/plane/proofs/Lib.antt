@@ -1,3 +1,4 @@
--- `Sides`: the side order's numbers. `Halves`: halves of sums, toward zero.
+-- `Sides`: the side order's numbers. `Halves`: halves of sums, toward zero. `Limits`: a rectangle within the coordinate limit.
 pub mod Sides
 pub mod Halves
+pub mod Limits

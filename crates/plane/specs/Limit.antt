@@ -22,7 +22,13 @@ all-in-limit (z ∷ c) = in-limit z && all-in-limit c
 abbrev pub rect-in-limit : Rect64 → Bool
 rect-in-limit r = in-limit (r .left) && in-limit (r .top) && in-limit (r .right) && in-limit (r .bottom)
 
--- the same of a point, and of a segment and an edge, as facts
+-- the same of a rectangle, a point, and a segment and an edge, as facts
+pub record LimitedRect (r : Rect64) : Type 0 where
+  pub left : Limit (r .left)
+  pub top : Limit (r .top)
+  pub right : Limit (r .right)
+  pub bottom : Limit (r .bottom)
+
 pub record Limited (p : Point64) : Type 0 where
   pub across : Limit (p .x)
   pub down : Limit (p .y)

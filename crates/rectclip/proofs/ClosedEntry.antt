@@ -16,9 +16,9 @@ use Rattle.plane.specs.Points.{points-of}
 use Rattle.plane.specs.Rectangle.{is-empty, intersects, contains-rect, get-bounds-path}
 use Rattle.reference.specs.Walk.{Walked, walk-closed, no-room}
 use Rattle.reference.specs.Clip.{clip-walked, execute}
+use Rattle.theorems.specs.Rings.{Entered}
 use Rattle.theorems.specs.Demand.{is-walked}
 use Rattle.theorems.proofs.Holds.{holds-ok}
-use Rattle.theorems.proofs.WalkArena.{Entered}
 use Rattle.theorems.proofs.WalkEnters.{walk-enters}
 use Rattle.theorems.proofs.Entering.{entry-found}
 use Rattle.theorems.proofs.ClosedArea.{walked-not-empty}

@@ -6,15 +6,15 @@ use Prim.Native.Nat.{ℕ, zero, suc, _≤_}
 use native.Mathlib.Omega.{arith}
 use borrow.Author.Tests.{leb-true}
 use lib.IntN.{ℤ, natAbs}
+use Rattle.plane.proofs.Limits.{rect-limited}
 use Rattle.plane.specs.declared.point.Point64.{Point64}
 use Rattle.plane.specs.declared.rect.Rect64.{Rect64}
 use Rattle.plane.specs.declared.location.Location.{Location}
 use Rattle.plane.specs.declared.location.Location.the-variants.{Left, Top, Right, Bottom, Inside}
-use Rattle.plane.specs.Limit.{in-limit, all-in-limit, rect-in-limit, Limited}
+use Rattle.plane.specs.Limit.{in-limit, all-in-limit, rect-in-limit, Limited, LimitedRect}
 use Rattle.plane.specs.Points.{pt-at, points-of}
 use Rattle.plane.specs.Rectangle.{corner}
 use Rattle.integers.specs.Tests.{T-of}
-use Rattle.theorems.proofs.Demand.{LimitedRect, rect-limited}
 use Rattle.rectclip.specs.Bounds.{Reached, SearchLimits}
 use Rattle.theorems.proofs.Tests.{both}
 

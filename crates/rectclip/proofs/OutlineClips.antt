@@ -15,10 +15,11 @@ use Rattle.plane.specs.Points.{points-of, pt-at, origin}
 use Rattle.reference.specs.Walk.{Walked}
 use Rattle.reference.specs.Arena.{Arena, pt-of, owner-of, ring, check-edges}
 use Rattle.reference.specs.Clip.{enter-all, arena-of, get-paths, clip-walked}
+use Rattle.theorems.specs.Rings.{Entered}
 use Rattle.theorems.specs.Demand.{signedArea2}
 use Rattle.theorems.proofs.Holds.{holds-ok}
 use Rattle.theorems.proofs.ReadAll.{Whole, whole-some}
-use Rattle.theorems.proofs.WalkArena.{Entered, Met, met-whole, walk-behind}
+use Rattle.theorems.proofs.WalkArena.{Met, met-whole, walk-behind}
 use Rattle.theorems.proofs.AreaKeeps.{four-met}
 use Rattle.rectclip.specs.declared.arena.Sizes.{Sizes}
 use Rattle.rectclip.specs.declared.clipping.Clipped.{Clipped}

@@ -8,11 +8,11 @@ use lib.IntN.{ℤ}
 use lib.ListN.{length}
 use Rattle.plane.specs.declared.point.Point64.{Point64}
 use Rattle.plane.specs.declared.rect.Rect64.{Rect64}
-use Rattle.plane.specs.Limit.{Limited, all-in-limit}
+use Rattle.plane.specs.Limit.{Limited, all-in-limit, LimitedRect}
 use Rattle.plane.specs.Points.{origin, point, points-of, pt-at, coordinates-of}
 use Rattle.plane.specs.Rectangle.{as-path}
 use Rattle.theorems.proofs.Holds.{all-at}
-use Rattle.theorems.proofs.Demand.{LimitedRect, points-limited}
+use Rattle.theorems.proofs.Demand.{points-limited}
 use Rattle.rectclip.specs.Bounds.{Reached, Turn, Vertices, BothPaths}
 use Rattle.rectclip.proofs.Coordinates.{points-length}
 

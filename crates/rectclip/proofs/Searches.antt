@@ -1,6 +1,6 @@
 -- The search over the edges, as the code goes through them: the first edge that has a crossing answers. Assumes nothing.
 use mathlib.Core.Path.{_≡_, refl, sym, ap, _∙_, subst}
-use Rattle.plane.specs.Limit.{Limited, AllLimited}
+use Rattle.plane.specs.Limit.{Limited, AllLimited, LimitedRect}
 use Rattle.plane.specs.Points.{pt-at}
 use Rattle.plane.specs.Rectangle.{as-path}
 use Rattle.plane.specs.Locations.{lower, upper}
@@ -11,7 +11,6 @@ use Rattle.plane.specs.declared.location.Location.{Location}
 use Rattle.plane.specs.declared.location.Location.the-variants.{Left, Top, Right, Bottom, Inside}
 use Rattle.plane.specs.declared.point.Point64.{Point64}
 use Rattle.plane.specs.declared.rect.Rect64.{Rect64}
-use Rattle.theorems.proofs.Demand.{LimitedRect}
 use Rattle.theorems.proofs.Search.{found-outside, outside-across, outside-down}
 use Rattle.rectclip.specs.Bounds.{SearchLimits, InReach}
 use Rattle.rectclip.specs.Parted.{beyond-intersection}

@@ -6,10 +6,9 @@ use lib.IntN.{ℤ, natAbs, _-ℤ_, _*ℤ_}
 use Rattle.plane.specs.Points.{points-of, pt-at}
 use mathlib.Core.Path.{_≡_}
 use mathlib.Core.Bool.{false}
-use Rattle.plane.specs.Limit.{Limited}
+use Rattle.plane.specs.Limit.{Limited, LimitedRect}
 use Rattle.plane.specs.Rectangle.{is-empty}
 use Rattle.theorems.specs.Demand.{AtMostOneOutside}
-use Rattle.theorems.proofs.Demand.{LimitedRect}
 use Rattle.plane.specs.declared.crossing.Search.{Search}
 use Rattle.plane.specs.declared.crossing.Search.the-variants.{Found}
 use Rattle.plane.specs.declared.location.Location.{Location}

@@ -17,8 +17,8 @@ use Rattle.reference.specs.Walk as def
 use Rattle.reference.specs.Arena.{pt-of, ring}
 use Rattle.reference.specs.Clip.{enter-all, clip-walked}
 use Rattle.reference.specs.Entry.{Drawing, joined, answered}
+use Rattle.theorems.specs.Rings.{Entered}
 use Rattle.theorems.specs.Demand.{is-walked}
-use Rattle.theorems.proofs.WalkArena.{Entered}
 use Rattle.entry.specs.declared.answer.Answer.{Answer}
 use Rattle.rectclip.specs.declared.arena.Sizes.{Sizes}
 use Rattle.rectclip.specs.declared.clipping.Clipped.{Clipped}

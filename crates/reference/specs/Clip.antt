@@ -1,7 +1,7 @@
 -- `RectClip64::get_path`, and `execute` for one closed path.
 use mathlib.Core.Bool.{Bool, not, _||_}
 use mathlib.Core.List.{List, [], _∷_}
-use Prim.Native.Nat.{ℕ, zero, suc, _-_}
+use Prim.Native.Nat.{ℕ, zero, suc}
 use lib.ListN.{length}
 use lib.Dec.{eqb, ltb}
 use Rattle.plane.specs.declared.point.Point64.{Point64}

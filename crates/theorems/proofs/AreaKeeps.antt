@@ -16,6 +16,7 @@ use Rattle.reference.specs.Walk.{Walked, walk-closed}
 use Rattle.reference.specs.Arena.{Arena, check-edges}
 use Rattle.reference.specs.Tidy.{tidy-edges}
 use Rattle.reference.specs.Clip.{get-paths, arena-of, clip-walked, execute}
+use Rattle.theorems.specs.Rings.{Entered}
 use Rattle.theorems.specs.Demand.{signedArea2, totalArea2, is-walked, AreaKept}
 use Rattle.theorems.proofs.Holds.{Holds, refused, held, bind, holds-ok}
 use Rattle.theorems.proofs.Unlimited.{walks-outline}
@@ -23,7 +24,7 @@ use Rattle.theorems.proofs.TidyInv.{Inv}
 use Rattle.theorems.proofs.TidyAll.{tidy-inv, none-side}
 use Rattle.theorems.proofs.ReadAll.{Whole, read-whole}
 use Rattle.theorems.proofs.Assigning.{line-at}
-use Rattle.theorems.proofs.WalkArena.{Entered, Met, met-whole, walk-behind}
+use Rattle.theorems.proofs.WalkArena.{Met, met-whole, walk-behind}
 
 -- ---- from the arena behind `check_edges` to the paths
 abbrev pub Answer : Type 0

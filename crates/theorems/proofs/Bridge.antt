@@ -13,7 +13,7 @@ use Rattle.rounding.proofs.Inside.{not-eq-zero}
 use Rattle.plane.specs.declared.point.Point64.{Point64}
 use Rattle.plane.specs.declared.crossing.Crossing.{Crossing}
 use Rattle.plane.specs.declared.crossing.Crossing.the-variants.{Nothing, At, Along}
-use Rattle.plane.specs.Limit.{Limited, AllLimited}
+use Rattle.plane.specs.Limit.{Limited, AllLimited, LimitedRect}
 use Rattle.plane.specs.Segment.{determinant, fraction, workingOf, crossingOf, settledOf}
 use Rattle.theorems.proofs.Crossed.{determinant-is}
 use Rattle.plane.specs.declared.rect.Rect64.{Rect64}
@@ -24,7 +24,6 @@ use Rattle.plane.specs.declared.crossing.Search.the-variants.{Missed, Found}
 use Rattle.plane.specs.Signs.{cross-product-sign}
 use Rattle.plane.specs.Points.{origin}
 use Rattle.plane.specs.Intersection.{at-end, get-segment-intersection, met, edge-intersection, _or-else_, side-intersection, get-intersection}
-use Rattle.theorems.proofs.Demand.{LimitedRect}
 use Rattle.theorems.proofs.GeoPlane.{sign, cross, zero?, up?, same, samePt, on, Hit, none, known, proper, hit?, known?, segment, Side, onLeft, onTop, onRight, onBottom, loc, from, to, edge, Found as Finding, nothing, found, try, search, Proper}
 use Rattle.theorems.proofs.GeoTell.{NonZero}
 use Rattle.theorems.proofs.GeoCrossing.{det-non}

@@ -12,11 +12,12 @@ use Rattle.plane.specs.Basics.{none, upwards}
 use Rattle.reference.specs.Walk.{Walked, walk-closed}
 use Rattle.reference.specs.Arena.{Arena, check-edges}
 use Rattle.reference.specs.Clip.{arena-of}
+use Rattle.theorems.specs.Rings.{Entered}
 use Rattle.theorems.specs.Demand.{signedArea2}
 use Rattle.theorems.specs.LoopsEnd.{CheckEnds, TidyEnds, ClipEnds, CountsNeverRunOut}
 use Rattle.plane.specs.Points.{points-of}
 use Rattle.theorems.proofs.Assigning.{line-at}
-use Rattle.theorems.proofs.WalkArena.{Entered, Met, met-whole, Start, empty, ringed, walk-behind}
+use Rattle.theorems.proofs.WalkArena.{Met, met-whole, Start, empty, ringed, walk-behind}
 use Rattle.theorems.proofs.AreaKeeps.{one-met, two-met, three-met, four-met}
 use Rattle.theorems.proofs.TidyEnds.{tidy-ends}
 use Rattle.theorems.proofs.PathEnds.{check-ends, all-paths-end}

@@ -12,10 +12,10 @@ use Rattle.plane.specs.Basics.{none, ok}
 use Rattle.plane.specs.Rectangle.{is-empty, intersects, contains-rect, get-bounds-path}
 use Rattle.reference.specs.Walk.{Walked, walk-closed, no-room}
 use Rattle.reference.specs.Clip.{execute}
+use Rattle.theorems.specs.Rings.{Entered}
 use Rattle.theorems.specs.Demand.{is-walked, AreaKept, Bounded, Demand3-holds}
 use Rattle.plane.specs.Points.{points-of}
 use Rattle.theorems.proofs.Counted.{has-room, walk-counted}
-use Rattle.theorems.proofs.WalkArena.{Entered}
 use Rattle.theorems.proofs.AreaKeeps.{closed-area-of}
 use Rattle.theorems.proofs.FirstCrossing.{EntryFound}
 use Rattle.theorems.proofs.WalkEnters.{walk-enters}

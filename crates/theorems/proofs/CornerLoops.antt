@@ -10,8 +10,9 @@ use native.Mathlib.Decide.{decLt}
 use lib.ListN.{length}
 use lib.Dec.{leb, ltb, leb→le, nleb→lt, ltb→lt}
 use Rattle.integers.specs.Tests.{T-of, T-not-of}
+use Rattle.plane.proofs.Limits.{rect-limited}
 use Rattle.plane.specs.declared.point.Point64.{Point64}
-use Rattle.plane.specs.Limit.{Limited}
+use Rattle.plane.specs.Limit.{Limited, LimitedRect}
 use Rattle.plane.specs.declared.rect.Rect64.{Rect64}
 use Rattle.plane.specs.declared.location.Location.{Location}
 use Rattle.plane.specs.declared.location.Location.the-variants.{Left, Top, Right, Bottom, Inside}
@@ -24,7 +25,7 @@ use Rattle.plane.specs.Signs.{is-clockwise-dir}
 use Rattle.reference.specs.Walk.{Walk, push-start-locs, add-corners, Next, get-next-location, State, remain-outside, pt-before, pass-from, passes}
 use Rattle.theorems.specs.CornerLoops.{Arrives, GoesRound, PassEnds, pass-of, PassesEnd, begun, WhileEnds, WalkCornersEnd, CornerLoopsEnd}
 use Rattle.theorems.proofs.Holds.{Holds, held, bind, holds-both, either, by-search, All, all-at, weaker, anything, holds-ok}
-use Rattle.theorems.proofs.Demand.{LimitedRect, rect-limited, points-limited, not-empty-order}
+use Rattle.theorems.proofs.Demand.{points-limited, not-empty-order}
 use Rattle.theorems.proofs.GeoPlane.{Proper}
 use Rattle.theorems.proofs.GeoWalk.{located, inside?}
 use Rattle.theorems.proofs.GeoProgress.{In, Stop, enters, passes as crosses, leaves, located-in, edge-closed}

@@ -1,6 +1,6 @@
 -- A segment that passes an edge of the rectangle, parallel to an axis, has a crossing with it, at a point that is less than 1 + 2 ^ -25 away from the exact one on each axis. Assumes nothing.
 use mathlib.Core.Path.{_≡_, refl, sym, ap, _∙_, subst}
-use Prim.Native.Nat.{ℕ, _*_, _≤_, _<_, zero-le}
+use Prim.Native.Nat.{ℕ, _≤_, _<_, zero-le}
 use native.Mathlib.Nat.{lt-of-le-of-lt, mul-pos}
 use mathlib.Core.Bool.{Bool, false, cond}
 use lib.IntN.{ℤ, pos, negℤ, natAbs, _-ℤ_, _*ℤ_, *ℤ-comm}

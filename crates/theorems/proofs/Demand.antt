@@ -7,15 +7,17 @@ use Prim.Native.Nat.{ℕ, zero, suc, _+_, _-_, _<_}
 use native.Mathlib.Omega.{arith}
 use lib.ListN.{length}
 use lib.Dec.{T, lit<, leb→le}
+use lib.Ieee.Fits.{and-l, and-r}
 use lib.IntN.{ℤ, pos, natAbs, _+ℤ_, _-ℤ_, _*ℤ_}
 use lib.Signed.{leZ, _≤ℤ_, _<ℤ_}
 use Rattle.integers.specs.Order.{zint, sub-pn, add-pn, size-up, size-down}
 use Rattle.integers.specs.Tests.{leZ-false}
 use Rattle.integers.specs.Ring.{var, _⊕_, _⊖_, _⊗_, ring}
-use Rattle.rounding.specs.Coordinate.{exact, Near, Limit}
+use Rattle.rounding.specs.Coordinate.{exact, Near}
 use Rattle.rounding.proofs.Edge.{low-side, high-side}
 use Rattle.plane.specs.declared.point.Point64.{Point64}
-use Rattle.plane.specs.Limit.{Limited, AllLimited, in-limit, all-in-limit, rect-in-limit}
+use Rattle.plane.specs.Limit.{LimitedRect, Limited, AllLimited, in-limit, all-in-limit, rect-in-limit}
+use Rattle.plane.proofs.Limits.{rect-limited}
 use Rattle.plane.specs.declared.rect.Rect64.{Rect64}
 use Rattle.plane.specs.declared.location.Location.{Location}
 use Rattle.plane.specs.declared.location.Location.the-variants.{Left, Top, Right, Bottom, Inside}
@@ -36,12 +38,6 @@ use Rattle.theorems.proofs.Crossings.{Got, got-from, got-to, got-near, 
 use Rattle.theorems.proofs.Tests.{neither}
 
 -- ---- the search
-pub record LimitedRect (r : Rect64) : Type 0 where
-  pub left : Limit (r .left)
-  pub top : Limit (r .top)
-  pub right : Limit (r .right)
-  pub bottom : Limit (r .bottom)
-
 module _ (r : Rect64) (lr : LimitedRect r) (wide : r .left <ℤ r .right) (high : r .top <ℤ r .bottom) (a b : Point64) (la : Limited a) (lb : Limited b) where
   corners-limited : (c d : Point64) → Limited c → Limited d → AllLimited a b c d
   corners-limited c d h k = record { start = la; end = lb; edge = h; far = k }
@@ -105,24 +101,12 @@ module _ (r : Rect64) (lr : LimitedRect r) (wide : r .left <ℤ r .right) (high 
       (or-cases (edge-intersection r Right a b) _ q t (edge-hit Right refl q t) (edge-hit Bottom refl q t)))
 
 -- ---- limits
-split : (x y : Bool) → T (x && y) → T x × T y
-split true y h = (tt, h)
-split false y h = absurd h
-
-pub rect-limited : (r : Rect64) → T (rect-in-limit r) → LimitedRect r
-rect-limited r h =
-    let u = split (in-limit (r .left) && in-limit (r .top) && in-limit (r .right)) (in-limit (r .bottom)) h in
-    let v = split (in-limit (r .left) && in-limit (r .top)) (in-limit (r .right)) (u .0) in
-    let w = split (in-limit (r .left)) (in-limit (r .top)) (v .0) in
-    record { left = leb→le _ _ (w .0); top = leb→le _ _ (w .1); right = leb→le _ _ (v .1); bottom = leb→le _ _ (u .1) }
-
 pub points-limited : (c : List ℤ) → T (all-in-limit c) → All Limited (points-of c)
 points-limited [] h = tt
 points-limited (x ∷ []) h = tt
 points-limited (x ∷ y ∷ c) h =
-    let u = split (in-limit x) (in-limit y && all-in-limit c) h in
-    let v = split (in-limit y) (all-in-limit c) (u .1) in
-    (record { across = leb→le _ _ (u .0); down = leb→le _ _ (v .0) }, points-limited c (v .1))
+    let u = and-r (in-limit x) (in-limit y && all-in-limit c) h in
+    (record { across = leb→le _ _ (and-l (in-limit x) (in-limit y && all-in-limit c) h); down = leb→le _ _ (and-l (in-limit y) (all-in-limit c) u) }, points-limited c (and-r (in-limit y) (all-in-limit c) u))
 
 segment-limited : {closed : Bool} {path : List Point64} {a b : Point64} → All Limited path → Segment closed path a b → Limited a × Limited b
 segment-limited {path} h (onward i l) = (all-at Limited path i origin h (omega arith), all-at Limited path (i + 1) origin h l)

@@ -11,8 +11,9 @@ use lib.IntN.{ℤ, pos, _-ℤ_}
 use lib.Signed.{_<ℤ_, _≤ℤ_}
 use Rattle.integers.specs.Order.{zint, sub-pn}
 use Rattle.integers.specs.Tests.{leZ-true, leZ-false}
+use Rattle.plane.proofs.Limits.{rect-limited}
 use Rattle.plane.specs.declared.point.Point64.{Point64}
-use Rattle.plane.specs.Limit.{Limited, all-in-limit, rect-in-limit}
+use Rattle.plane.specs.Limit.{Limited, all-in-limit, rect-in-limit, LimitedRect}
 use Rattle.plane.specs.declared.rect.Rect64.{Rect64}
 use Rattle.plane.specs.declared.location.Location.{Location}
 use Rattle.plane.specs.declared.location.Location.the-variants.{Left, Top, Right, Bottom, Inside}
@@ -25,7 +26,7 @@ use Rattle.plane.specs.Intersection.{get-intersection}
 use Rattle.reference.specs.Walk.{next-side, pt-before}
 use Rattle.plane.specs.Locations.{is-inside}
 use Rattle.theorems.proofs.Holds.{All, all-at}
-use Rattle.theorems.proofs.Demand.{LimitedRect, rect-limited, points-limited, not-empty-order}
+use Rattle.theorems.proofs.Demand.{points-limited, not-empty-order}
 use Rattle.theorems.proofs.GeoPlane.{onLeft, onTop, onRight, onBottom, Proper}
 use Rattle.theorems.proofs.GeoSearch.{Inner, Outside, enter}
 use Rattle.theorems.proofs.Bridge.{told, search-told}

@@ -13,6 +13,7 @@ use Rattle.plane.specs.Basics.{none, is-nil, upwards}
 use Rattle.reference.specs.Walk.{no-room, Walked, walk-closed}
 use Rattle.reference.specs.Arena.{Arena, next-of, prev-of, owner-of, result-of, set-result}
 use Rattle.reference.specs.Clip.{get-path, get-paths, clip-walked}
+use Rattle.theorems.specs.Rings.{Entered}
 use Rattle.theorems.specs.Demand.{signedArea2}
 use Rattle.plane.specs.Points.{points-of}
 use Rattle.reference.specs.Entry.{joined}
@@ -26,7 +27,6 @@ use Rattle.theorems.proofs.Reading.{Some}
 use Rattle.theorems.proofs.ReadAll.{Ahead, advance, Whole, whole-some, whole-ahead}
 use Rattle.theorems.proofs.AreaKeeps.{clip-whole, called}
 use Rattle.theorems.proofs.Counted.{has-room, walk-counted}
-use Rattle.theorems.proofs.WalkArena.{Entered}
 use Rattle.theorems.proofs.WalkEnters.{walk-enters}
 use Rattle.theorems.proofs.Entering.{entry-found}
 use Rattle.theorems.proofs.ClosedArea.{walked-not-empty}

@@ -10,7 +10,7 @@ use lib.Dec.{leb, ltb, ltb→lt, nltb→le}
 use lib.Signed.{ltZ, leZ}
 use Rattle.integers.specs.Tests.{T-of, T-not-of, cond-true}
 use Rattle.plane.specs.declared.point.Point64.{Point64}
-use Rattle.plane.specs.Limit.{Limited}
+use Rattle.plane.specs.Limit.{Limited, LimitedRect}
 use Rattle.plane.specs.declared.rect.Rect64.{Rect64}
 use Rattle.plane.specs.declared.location.Location.{Location}
 use Rattle.plane.specs.declared.location.Location.the-variants.{Left, Top, Right, Bottom, Inside}
@@ -24,7 +24,6 @@ use Rattle.plane.specs.Intersection.{get-intersection}
 use Rattle.plane.specs.Signs.{is-clockwise-dir}
 use Rattle.reference.specs.Walk.{Walk, add, push-start-locs, add-corners, Next, next-side, next-outside, next-inside, get-next-location, State, Pass, remain-outside, cross-boundary, pt-before, pass-from, passes}
 use Rattle.theorems.proofs.Holds.{Holds, refused, held, bind, either, All, all-at, anything}
-use Rattle.theorems.proofs.Demand.{LimitedRect}
 use Rattle.theorems.proofs.GeoPlane.{loc, Proper}
 use Rattle.theorems.proofs.GeoWalk.{Step, skip, stop, step}
 use Rattle.theorems.proofs.GeoProgress.{In, Stop, Steps, goes, halts, steps, skips-in}

@@ -10,12 +10,13 @@ use Rattle.reference.specs.Walk.{Walked, no-room, walk-closed}
 use Rattle.reference.specs.Arena.{Arena, check-edges}
 use Rattle.reference.specs.Tidy.{tidy-edges}
 use Rattle.reference.specs.Clip.{arena-of}
+use Rattle.theorems.specs.Rings.{Entered}
 use Rattle.theorems.specs.Sizes.{Fits, ListsFit, ListsAlwaysFit}
 use Rattle.plane.specs.Points.{points-of}
 use Rattle.theorems.proofs.Holds.{Holds, refused, held, bind, holds-ok}
 use Rattle.theorems.proofs.FewResults.{Few, check-size, walk-size, turn-size, tidy-few}
 use Rattle.theorems.proofs.FewEntries.{Within, turn-more, tidy-within}
-use Rattle.theorems.proofs.WalkArena.{Entered, walk-behind}
+use Rattle.theorems.proofs.WalkArena.{walk-behind}
 use Rattle.theorems.proofs.Counted.{has-room, walk-counted}
 use Rattle.theorems.proofs.WalkEnters.{walk-enters}
 use Rattle.theorems.proofs.Entering.{entry-found}

@@ -9,8 +9,9 @@ use lib.ListN.{length}
 use lib.Dec.{T, ltb}
 use lib.IntN.{ℤ}
 use lib.Signed.{ltZ}
+use Rattle.plane.proofs.Limits.{rect-limited}
 use Rattle.plane.specs.declared.point.Point64.{Point64}
-use Rattle.plane.specs.Limit.{Limited, rect-in-limit, all-in-limit}
+use Rattle.plane.specs.Limit.{Limited, rect-in-limit, all-in-limit, LimitedRect}
 use Rattle.plane.specs.declared.rect.Rect64.{Rect64}
 use Rattle.plane.specs.declared.location.Spot.{Spot}
 use Rattle.plane.specs.declared.location.Location.{Location}
@@ -26,7 +27,7 @@ use Rattle.plane.specs.Signs.{is-clockwise-dir}
 use Rattle.plane.specs.Polygon.{path1-contains-path2}
 use Rattle.reference.specs.Walk.{Walk, nothing-yet, unlimited, add, add-all, push-start-loc, add-corner-prev-curr, add-corner-loc, add-corners, push-start-locs, State, Pass, Walked, remain-outside, enter, pass-to, pass-through, leave, cross-boundary, passes, last-off, add-round, retrace, close-outline, surround, after-while, walk-from, walk-closed}
 use Rattle.theorems.proofs.Holds.{Holds, held, All, all-at}
-use Rattle.theorems.proofs.Demand.{LimitedRect, rect-limited, points-limited, not-empty-order}
+use Rattle.theorems.proofs.Demand.{points-limited, not-empty-order}
 use Rattle.theorems.proofs.GeoPlane.{loc, Proper}
 use Rattle.theorems.proofs.GeoSearch.{Finds, FindsNone, found-or, enter as enter-geo, leave as leave-geo, back}
 use Rattle.theorems.proofs.GeoWalk.{on-edge, on-left, on-right, on-top, on-bottom}

@@ -8,8 +8,9 @@ use lib.ListN.{length, drop}
 use lib.Dec.{T, ltb, nltb→le}
 use lib.IntN.{ℤ}
 use Rattle.integers.specs.Tests.{T-not-of}
+use Rattle.plane.proofs.Limits.{rect-limited}
 use Rattle.plane.specs.declared.point.Point64.{Point64}
-use Rattle.plane.specs.Limit.{Limited, rect-in-limit, all-in-limit}
+use Rattle.plane.specs.Limit.{Limited, rect-in-limit, all-in-limit, LimitedRect}
 use Rattle.plane.specs.declared.rect.Rect64.{Rect64}
 use Rattle.plane.specs.declared.location.Location.{Location}
 use Rattle.plane.specs.declared.location.Location.the-variants.{Inside}
@@ -23,7 +24,7 @@ use Rattle.plane.specs.Intersection.{get-intersection}
 use Rattle.reference.specs.Walk.{Walk, nothing-yet, add, Next}
 use Rattle.reference.specs.Lines.{line-through, line-cross, line-passes, first-off-edge, line-walk-from, walk-open}
 use Rattle.theorems.proofs.Holds.{All, all-at, all-drop}
-use Rattle.theorems.proofs.Demand.{LimitedRect, rect-limited, points-limited, not-empty-order}
+use Rattle.theorems.proofs.Demand.{points-limited, not-empty-order}
 use Rattle.theorems.proofs.GeoPlane.{Proper}
 use Rattle.theorems.proofs.GeoProgress.{In, Stop, Steps, goes, halts, steps, edge-closed}
 use Rattle.theorems.proofs.Passes.{stop-in, get-location-in}

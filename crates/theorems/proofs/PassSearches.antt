@@ -6,7 +6,7 @@ use lib.IntN.{ℤ, pos}
 use lib.Signed.{_≤ℤ_, _<ℤ_}
 use Rattle.integers.specs.Order.{zint, add-pn, eq→}
 use Rattle.plane.specs.declared.point.Point64.{Point64}
-use Rattle.plane.specs.Limit.{Limited}
+use Rattle.plane.specs.Limit.{Limited, LimitedRect}
 use Rattle.plane.specs.declared.rect.Rect64.{Rect64}
 use Rattle.plane.specs.declared.location.Location.{Location}
 use Rattle.plane.specs.declared.location.Location.the-variants.{Inside}
@@ -14,7 +14,6 @@ use Rattle.plane.specs.declared.crossing.Search.{Search}
 use Rattle.plane.specs.declared.crossing.Search.the-variants.{Missed, Found}
 use Rattle.plane.specs.Points.{origin, same-point}
 use Rattle.plane.specs.Intersection.{get-intersection}
-use Rattle.theorems.proofs.Demand.{LimitedRect}
 use Rattle.theorems.proofs.GeoPlane.{samePt, Side, onLeft, onTop, onRight, onBottom, loc, edge, Found as Finding, nothing, found, search, depth, opposite, second, last, Proper}
 use Rattle.theorems.proofs.GeoCut.{Depths}
 use Rattle.theorems.proofs.GeoSides.{Meets, around}

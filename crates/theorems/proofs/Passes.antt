@@ -11,8 +11,9 @@ use lib.IntN.{ℤ, pos}
 use lib.Signed.{ltZ, leZ, _≤ℤ_, _<ℤ_}
 use Rattle.integers.specs.Order.{zint}
 use Rattle.integers.specs.Tests.{eqZ, T-of, T-not-of}
+use Rattle.plane.proofs.Limits.{rect-limited}
 use Rattle.plane.specs.declared.point.Point64.{Point64}
-use Rattle.plane.specs.Limit.{Limited}
+use Rattle.plane.specs.Limit.{Limited, LimitedRect}
 use Rattle.plane.specs.declared.rect.Rect64.{Rect64}
 use Rattle.plane.specs.declared.location.Spot.{Spot}
 use Rattle.plane.specs.declared.location.Location.{Location}
@@ -28,7 +29,7 @@ use Rattle.reference.specs.Walk.{Walk, nothing-yet, add, push-start-loc, add-co
 use Rattle.reference.specs.Lines.{line-through, line-cross, line-from, line-passes}
 use Rattle.theorems.specs.Bounds.{WalkEnds, LineWalkEnds}
 use Rattle.theorems.proofs.Holds.{Holds, refused, held, bind, either, by-search, All, all-at, weaker, anything, holds-ok}
-use Rattle.theorems.proofs.Demand.{LimitedRect, rect-limited, points-limited, not-empty-order}
+use Rattle.theorems.proofs.Demand.{points-limited, not-empty-order}
 use Rattle.theorems.proofs.GeoPlane.{Side, onLeft, onTop, onRight, onBottom, loc, Proper}
 use Rattle.theorems.proofs.GeoWalk.{located}
 use Rattle.theorems.proofs.GeoProgress.{In, in-side, Stop, enters, passes as crosses, leaves, located-in}

@@ -20,7 +20,7 @@ use Rattle.reference.specs.Arena.{Arena, pt-of, next-of, prev-of, owner-of, res
 use Rattle.reference.specs.Tidy.{Turn, turn, one-turn, tidy-edges}
 use Rattle.reference.specs.Clip.{enter-all, arena-of}
 use Rattle.theorems.specs.Demand.{signedArea2, across, line-of}
-use Rattle.theorems.specs.Rings.{Different, OneRing, InRing, RingsAre, OnEdgeLine, Ringwise, TurnsKeep, TidyKeeps, walked-rings, tidied, RingsKept, RingsAlwaysKept}
+use Rattle.theorems.specs.Rings.{Different, OneRing, InRing, RingsAre, OnEdgeLine, Ringwise, TurnsKeep, TidyKeeps, walked-rings, tidied, RingsKept, RingsAlwaysKept, Entered}
 use Rattle.theorems.proofs.Holds.{Holds, held, bind, holds-ok}
 use Rattle.theorems.proofs.Tests.{never}
 use Rattle.theorems.proofs.RingLaw.{Distinct}
@@ -32,7 +32,7 @@ use Rattle.theorems.proofs.TidyInv.{weight, On, Inv}
 use Rattle.theorems.proofs.TidyAll.{turn-inv}
 use Rattle.theorems.proofs.Assigning.{line-at}
 use Rattle.theorems.proofs.Dropping.{one-ring, ring-is, first-core}
-use Rattle.theorems.proofs.WalkArena.{Entered, Met, Behind, walk-behind}
+use Rattle.theorems.proofs.WalkArena.{Met, Behind, walk-behind}
 use Rattle.theorems.proofs.AreaKeeps.{side-met}
 use Rattle.theorems.proofs.Counted.{walk-counted}
 use Rattle.theorems.proofs.WalkEnters.{walk-enters}

@@ -16,13 +16,13 @@ use Rattle.plane.specs.declared.location.Location.{Location}
 use Rattle.plane.specs.declared.location.Location.the-variants.{Left, Top, Right, Bottom, Inside}
 use Rattle.plane.specs.declared.crossing.Search.{Search}
 use Rattle.plane.specs.declared.crossing.Search.the-variants.{Missed, Found}
-use Rattle.plane.specs.Limit.{Limited}
+use Rattle.plane.specs.Limit.{Limited, LimitedRect}
 use Rattle.plane.specs.Rectangle.{is-empty, beyond}
 use Rattle.plane.specs.Basics.{if_then_else_}
 use Rattle.plane.specs.Locations.{is-inside, lower, upper}
 use Rattle.plane.specs.Intersection.{edge-intersection, _or-else_, side-intersection, get-intersection}
 use Rattle.theorems.specs.Demand.{ExactCrossing, AtMostOneOutside, onward, corner-point, crossing}
-use Rattle.theorems.proofs.Demand.{LimitedRect, search-hits, not-empty-order, outside}
+use Rattle.theorems.proofs.Demand.{search-hits, not-empty-order, outside}
 use Rattle.theorems.proofs.Sources as sources
 use Rattle.theorems.proofs.Sources.{at-corner, at-crossing}
 use Rattle.theorems.proofs.GeoPlane.{Hit, none, known, proper, hit?, Side, onLeft, onTop, onRight, onBottom, loc, edge, Proper}

@@ -15,6 +15,7 @@ use Rattle.reference.specs.Walk.{Walked}
 use Rattle.reference.specs.Arena.{Arena, next-of, prev-of, owner-of, edge-of, edge-list, result-of, ring, set-edge, set-edge-list, add-to-edge, check-edges, check-from}
 use Rattle.reference.specs.Clip.{enter-all, arena-of}
 use Rattle.theorems.specs.Demand.{signedArea2}
+use Rattle.theorems.specs.Rings.{clockwise-corners, other-corners, Entered}
 use Rattle.theorems.proofs.RingLists.{In}
 use Rattle.theorems.proofs.RingSet.{total}
 use Rattle.theorems.proofs.RingStep.{Core}
@@ -25,16 +26,6 @@ use Rattle.theorems.proofs.Dropping.{one-ring, ring-is, first-core, len
 use Rattle.theorems.proofs.Checking.{One}
 use Rattle.theorems.proofs.CheckedEntries.{check-more}
 use Rattle.theorems.proofs.Checked.{Ready, Plain, edges-ready, edges-plain}
-
--- What the walk enters in edge lists: nothing, or each of the four corners that it has put down, in the lists of one direction.
-abbrev pub clockwise-corners : List (ℕ × ℕ)
-clockwise-corners = (0, 0) ∷ (2, 1) ∷ (4, 2) ∷ (6, 3) ∷ []
-
-abbrev pub other-corners : List (ℕ × ℕ)
-other-corners = (6, 0) ∷ (4, 1) ∷ (2, 2) ∷ (0, 3) ∷ []
-
-abbrev pub Entered : Walked → Type 0
-Entered w = (w .entered ≡ []) ⊎ ((length (w .walk .points) ≡ 4) × ((w .entered ≡ clockwise-corners) ⊎ (w .entered ≡ other-corners)))
 
 -- ---- the arena that the walk leaves
 rep-nil : (n e : ℕ) → getD (replicate {A = List ℕ} n []) e [] ≡ []

@@ -21,11 +21,11 @@ use Rattle.plane.specs.Basics.{if_then_else_, push, is-nil, lead, Try, ok, _>>=
 use Rattle.plane.specs.Rectangle.{is-empty, get-location, mid-point, contains-point, get-bounds-path, as-path, corner, beyond-or-on}
 use Rattle.plane.specs.Points.{pt-at, origin, same-point}
 use Rattle.plane.specs.Locations.{same-location, heading-clockwise, start-locs-are-clockwise, is-inside}
-use Rattle.theorems.proofs.WalkArena.{Entered}
 use Rattle.plane.specs.Intersection.{get-intersection}
 use Rattle.plane.specs.Signs.{is-clockwise-dir}
 use Rattle.plane.specs.Polygon.{path1-contains-path2}
 use Rattle.reference.specs.Walk.{Walk, nothing-yet, add, add-all, Next, add-corner-loc, push-start-locs, next-side, next-outside, get-next-location, State, Pass, remain-outside, pt-before, pass-from, passes, last-off, add-round, surround, retrace, close-outline, after-while, walk-from, walk-closed}
+use Rattle.theorems.specs.Rings.{Entered}
 use Rattle.theorems.proofs.Holds.{Holds, refused, held, bind, either, by-search, anything, holds-map}
 use Rattle.theorems.proofs.FirstCrossing.{EntryFound, clash, found-side, NotIn, cross-out, remain-out, start-points, next-region, first, spot-region}
 use Rattle.theorems.proofs.Tests.{neither}

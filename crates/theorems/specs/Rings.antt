@@ -22,6 +22,16 @@ use Rattle.reference.specs.Clip.{arena-of}
 use Rattle.theorems.specs.Demand.{Bounded, across, line-of}
 use Rattle.theorems.specs.Bounds.{Ringed}
 
+-- ---- what the walk enters in edge lists: nothing, or each of the four corners that it has put down, in the lists of one direction
+abbrev pub clockwise-corners : List (ℕ × ℕ)
+clockwise-corners = (0, 0) ∷ (2, 1) ∷ (4, 2) ∷ (6, 3) ∷ []
+
+abbrev pub other-corners : List (ℕ × ℕ)
+other-corners = (6, 0) ∷ (4, 1) ∷ (2, 2) ∷ (0, 3) ∷ []
+
+abbrev pub Entered : Walked → Type 0
+Entered w = (w .entered ≡ []) ⊎ ((length (w .walk .points) ≡ 4) × ((w .entered ≡ clockwise-corners) ⊎ (w .entered ≡ other-corners)))
+
 -- ---- rings
 -- no node stands twice
 abbrev pub Different : List ℕ → Type 0

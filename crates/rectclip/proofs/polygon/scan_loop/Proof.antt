@@ -1,6 +1,6 @@
 -- `scan_loop` meets its contract: it counts as the definition does. Assumes nothing.
 use mathlib.Core.Path.{_≡_, refl, sym, ap, _∙_, subst}
-use Prim.Native.Nat.{_-_, _/_}
+use Prim.Native.Nat.{_/_}
 use borrow.Author.Needs.{needs}
 use native.Mathlib.Omega.{arith}
 use lib.ListN.{length}
