@@ -3,16 +3,17 @@ use mathlib.Core.Path.{_≡_, refl}
 use mathlib.Core.Bool.{Bool, true, false, cond, _&&_, _||_}
 use mathlib.Core.List.{List, [], _∷_}
 use mathlib.Core.Logic.{_⊎_, inl, inr}
+use lib.Dec.{T}
 use lib.IntN.{ℤ, pos, negsuc, _+ℤ_, _-ℤ_}
 use lib.Signed.{ltZ, _≤ℤ_, _<ℤ_}
 use Rattle.integers.specs.Order.{zint, sub-pn, eq→}
 use Rattle.integers.specs.Tests.{eqZ, eq-eqZ, ne-eqZ}
-use Rattle.integers.specs.Ring.{Ex, con, v0, v1, v2, v3, v4, v5, v6, v7, _⊕_, _⊖_, _⊗_, ring}
+use Rattle.integers.specs.Ring.{Ex, ev, norm, zeroP, con, v0, v1, v2, v3, v4, v5, v6, v7, _⊕_, _⊖_, _⊗_, ring}
 use Rattle.plane.specs.declared.point.Point64.{Point64}
 use Rattle.plane.specs.declared.rect.Rect64.{Rect64}
 use Rattle.theorems.proofs.GeoPlane.{pt, same, on, Side, onLeft, onTop, onRight, onBottom, from, to, edge, met, depth, opposite, second, last, span, Proper}
 use Rattle.theorems.proofs.GeoCut.{Cut, Depths, swap}
-use Rattle.theorems.proofs.GeoTell.{Decides, ranged, ranged-up, ranged-down, decided}
+use Rattle.theorems.proofs.GeoTell.{Decides, NonZero, ranged, ranged-up, ranged-down, decided}
 use Rattle.theorems.proofs.GeoEdge.{Seen, segment-cuts}
 use Rattle.theorems.proofs.GeoAnswers.{Twin, twins}
 
@@ -61,110 +62,133 @@ zeroed {a} {b} e = omega (zint, eq→ e, sub-pn a b)
 zeroed′ : {a b : ℤ} → b -ℤ a ≡ pos 0 → a ≡ b
 zeroed′ {a} {b} e = omega (zint, eq→ e, sub-pn b a)
 
+-- An edge in expressions over rectangle and points: its ends, the depths of a point on its side and on the neighbours at its first and last
+-- end, its length, and three factors: e times a depth is the point's cross product with the edge, c times a cut that of an end with the
+-- segment, and (dx, dy) is the direction in which the cut moves.
+record Edge : Type 0 where
+  ax : Ex
+  ay : Ex
+  bx : Ex
+  by : Ex
+  side : Ex → Ex → Ex
+  first : Ex → Ex → Ex
+  last : Ex → Ex → Ex
+  m : Ex
+  e : Ex
+  c : ℤ
+  dx : ℤ
+  dy : ℤ
+
+abbrev edge-of : Side → Edge
+edge-of onLeft =
+    record { ax = v0; ay = v1; bx = v0; by = v3; side = λ x y. x ⊖ v0; first = λ x y. y ⊖ v1; last = λ x y. v3 ⊖ y; m = v3 ⊖ v1; e = v1 ⊖ v3; c = pos 1; dx = pos 0; dy = pos 1 }
+edge-of onTop =
+    record { ax = v0; ay = v1; bx = v2; by = v1; side = λ x y. y ⊖ v1; first = λ x y. x ⊖ v0; last = λ x y. v2 ⊖ x; m = v2 ⊖ v0; e = v2 ⊖ v0; c = negsuc 0; dx = pos 1; dy = pos 0 }
+edge-of onRight =
+    record { ax = v2; ay = v1; bx = v2; by = v3; side = λ x y. v2 ⊖ x; first = λ x y. y ⊖ v1; last = λ x y. v3 ⊖ y; m = v3 ⊖ v1; e = v3 ⊖ v1; c = negsuc 0; dx = pos 0; dy = pos 1 }
+edge-of onBottom =
+    record { ax = v2; ay = v3; bx = v0; by = v3; side = λ x y. v3 ⊖ y; first = λ x y. v2 ⊖ x; last = λ x y. x ⊖ v0; m = v2 ⊖ v0; e = v2 ⊖ v0; c = negsuc 0; dx = negsuc 0; dy = pos 0 }
+
+module _ (d : Edge) where
+  -- the depths of p and q on the side, and on the two neighbours
+  abbrev uE : Ex
+  uE = d .side v4 v5
+
+  abbrev vE : Ex
+  vE = d .side v6 v7
+
+  abbrev gE : Ex
+  gE = d .first v4 v5
+
+  abbrev hE : Ex
+  hE = d .first v6 v7
+
+  abbrev wE : Ex
+  wE = d .last v4 v5
+
+  abbrev xE : Ex
+  xE = d .last v6 v7
+
+  -- where the segment is cut, as seen from the first end and from the last
+  abbrev cutA : Ex
+  cutA = uE ⊗ hE ⊖ vE ⊗ gE
+
+  abbrev cutB : Ex
+  cutB = vE ⊗ wE ⊖ uE ⊗ xE
+
+  -- the identities between them, computed
+  abbrev Is : Ex → Ex → Type 0
+  Is l r = T (zeroP (norm (l ⊖ r)))
+
+  record Identities : Type 0 where
+    p-along : Is (gE ⊕ wE) (d .m)
+    q-along : Is (hE ⊕ xE) (d .m)
+    p-off : Is (crossE v4 v5 (d .ax) (d .ay) (d .bx) (d .by)) (d .e ⊗ uE)
+    q-off : Is (crossE v6 v7 (d .ax) (d .ay) (d .bx) (d .by)) (d .e ⊗ vE)
+    A-off : Is (crossE (d .ax) (d .ay) v4 v5 v6 v7) (con (d .c) ⊗ cutA)
+    B-off : Is (crossE (d .bx) (d .by) v4 v5 v6 v7) (con (d .c) ⊗ cutB)
+    A-x : Is (vE ⊗ (d .ax ⊖ v4) ⊕ uE ⊗ (v6 ⊖ d .ax)) (con (d .dx) ⊗ cutA)
+    A-y : Is (vE ⊗ (d .ay ⊖ v5) ⊕ uE ⊗ (v7 ⊖ d .ay)) (con (d .dy) ⊗ cutA)
+    B-x : Is (vE ⊗ (d .bx ⊖ v4) ⊕ uE ⊗ (v6 ⊖ d .bx)) (con (d .dx) ⊗ cutB)
+    B-y : Is (vE ⊗ (d .by ⊖ v5) ⊕ uE ⊗ (v7 ⊖ d .by)) (con (d .dy) ⊗ cutB)
+
+identities : (s : Side) → Identities (edge-of s)
+identities onLeft = record { p-along = tt; q-along = tt; p-off = tt; q-off = tt; A-off = tt; B-off = tt; A-x = tt; A-y = tt; B-x = tt; B-y = tt }
+identities onTop = record { p-along = tt; q-along = tt; p-off = tt; q-off = tt; A-off = tt; B-off = tt; A-x = tt; A-y = tt; B-x = tt; B-y = tt }
+identities onRight = record { p-along = tt; q-along = tt; p-off = tt; q-off = tt; A-off = tt; B-off = tt; A-x = tt; A-y = tt; B-x = tt; B-y = tt }
+identities onBottom = record { p-along = tt; q-along = tt; p-off = tt; q-off = tt; A-off = tt; B-off = tt; A-x = tt; A-y = tt; B-x = tt; B-y = tt }
+
+-- what an edge shows of p and q, from its identities
+module _ (ρ : List ℤ) (d : Edge) (i : Identities d) where
+  abbrev at : Ex → ℤ
+  at z = ev ρ z
+
+  shown : pos 0 <ℤ at (d .m) → NonZero (at (d .e)) → NonZero (d .c)
+      → (at (uE d) ≡ pos 0 → Decides (on (pt (at v4) (at v5)) (pt (at (d .ax)) (at (d .ay))) (pt (at (d .bx)) (at (d .by)))) ((pos 0 ≤ℤ at (gE d)) × (pos 0 ≤ℤ at (wE d))))
+      → (at (vE d) ≡ pos 0 → Decides (on (pt (at v6) (at v7)) (pt (at (d .ax)) (at (d .ay))) (pt (at (d .bx)) (at (d .by)))) ((pos 0 ≤ℤ at (hE d)) × (pos 0 ≤ℤ at (xE d))))
+      → Seen (pt (at v4) (at v5)) (pt (at v6) (at v7)) (pt (at (d .ax)) (at (d .ay))) (pt (at (d .bx)) (at (d .by))) (at (uE d)) (at (vE d)) (at (gE d)) (at (hE d)) (at (wE d)) (at (xE d))
+  shown m-pos e-non c-non p-on q-on =
+      record {
+        m = at (d .m);
+        m-pos = m-pos;
+        p-along = ring ρ (gE d ⊕ wE d) (d .m) (i .p-along);
+        q-along = ring ρ (hE d ⊕ xE d) (d .m) (i .q-along);
+        e = at (d .e);
+        e-non = e-non;
+        p-off = ring ρ (crossE v4 v5 (d .ax) (d .ay) (d .bx) (d .by)) (d .e ⊗ uE d) (i .p-off);
+        q-off = ring ρ (crossE v6 v7 (d .ax) (d .ay) (d .bx) (d .by)) (d .e ⊗ vE d) (i .q-off);
+        c = d .c;
+        c-non = c-non;
+        A-off = ring ρ (crossE (d .ax) (d .ay) v4 v5 v6 v7) (con (d .c) ⊗ cutA d) (i .A-off);
+        B-off = ring ρ (crossE (d .bx) (d .by) v4 v5 v6 v7) (con (d .c) ⊗ cutB d) (i .B-off);
+        p-on = p-on;
+        q-on = q-on;
+        ax = d .dx;
+        ay = d .dy;
+        bx = d .dx;
+        by = d .dy;
+        A-x = ring ρ (vE d ⊗ (d .ax ⊖ v4) ⊕ uE d ⊗ (v6 ⊖ d .ax)) (con (d .dx) ⊗ cutA d) (i .A-x);
+        A-y = ring ρ (vE d ⊗ (d .ay ⊖ v5) ⊕ uE d ⊗ (v7 ⊖ d .ay)) (con (d .dy) ⊗ cutA d) (i .A-y);
+        B-x = ring ρ (vE d ⊗ (d .bx ⊖ v4) ⊕ uE d ⊗ (v6 ⊖ d .bx)) (con (d .dx) ⊗ cutB d) (i .B-x);
+        B-y = ring ρ (vE d ⊗ (d .by ⊖ v5) ⊕ uE d ⊗ (v7 ⊖ d .by)) (con (d .dy) ⊗ cutB d) (i .B-y);
+      }
+
 abbrev pub SeenAt : Rect64 → Side → Point64 → Point64 → Type 0
 SeenAt r s p q = Seen p q (from r s) (to r s) (depth r s p) (depth r s q) (depth r (near s) p) (depth r (near s) q) (depth r (opposite (near s)) p) (depth r (opposite (near s)) q)
 
 pub seen : (r : Rect64) → Proper r → (s : Side) (p q : Point64) → SeenAt r s p q
 seen r k onLeft p q =
-    record {
-      m = r .bottom -ℤ r .top;
-      m-pos = omega (zint, k .high, sub-pn (r .bottom) (r .top));
-      p-along = ring (pts r p q) ((v5 ⊖ v1) ⊕ (v3 ⊖ v5)) (v3 ⊖ v1) tt;
-      q-along = ring (pts r p q) ((v7 ⊖ v1) ⊕ (v3 ⊖ v7)) (v3 ⊖ v1) tt;
-      e = r .top -ℤ r .bottom;
-      e-non = inr (omega (zint, k .high, sub-pn (r .top) (r .bottom)));
-      p-off = ring (pts r p q) (crossE v4 v5 v0 v1 v0 v3) ((v1 ⊖ v3) ⊗ (v4 ⊖ v0)) tt;
-      q-off = ring (pts r p q) (crossE v6 v7 v0 v1 v0 v3) ((v1 ⊖ v3) ⊗ (v6 ⊖ v0)) tt;
-      c = pos 1;
-      c-non = inl (omega zint);
-      A-off = ring (pts r p q) (crossE v0 v1 v4 v5 v6 v7) (con (pos 1) ⊗ ((v4 ⊖ v0) ⊗ (v7 ⊖ v1) ⊖ (v6 ⊖ v0) ⊗ (v5 ⊖ v1))) tt;
-      B-off = ring (pts r p q) (crossE v0 v3 v4 v5 v6 v7) (con (pos 1) ⊗ ((v6 ⊖ v0) ⊗ (v3 ⊖ v5) ⊖ (v4 ⊖ v0) ⊗ (v3 ⊖ v7))) tt;
-      p-on = λ e. upright-on p (r .left) (r .top) (r .bottom) (k .high) (zeroed e);
-      q-on = λ e. upright-on q (r .left) (r .top) (r .bottom) (k .high) (zeroed e);
-      ax = pos 0;
-      ay = pos 1;
-      bx = pos 0;
-      by = pos 1;
-      A-x = ring (pts r p q) ((v6 ⊖ v0) ⊗ (v0 ⊖ v4) ⊕ (v4 ⊖ v0) ⊗ (v6 ⊖ v0)) (con (pos 0) ⊗ ((v4 ⊖ v0) ⊗ (v7 ⊖ v1) ⊖ (v6 ⊖ v0) ⊗ (v5 ⊖ v1))) tt;
-      A-y = ring (pts r p q) ((v6 ⊖ v0) ⊗ (v1 ⊖ v5) ⊕ (v4 ⊖ v0) ⊗ (v7 ⊖ v1)) (con (pos 1) ⊗ ((v4 ⊖ v0) ⊗ (v7 ⊖ v1) ⊖ (v6 ⊖ v0) ⊗ (v5 ⊖ v1))) tt;
-      B-x = ring (pts r p q) ((v6 ⊖ v0) ⊗ (v0 ⊖ v4) ⊕ (v4 ⊖ v0) ⊗ (v6 ⊖ v0)) (con (pos 0) ⊗ ((v6 ⊖ v0) ⊗ (v3 ⊖ v5) ⊖ (v4 ⊖ v0) ⊗ (v3 ⊖ v7))) tt;
-      B-y = ring (pts r p q) ((v6 ⊖ v0) ⊗ (v3 ⊖ v5) ⊕ (v4 ⊖ v0) ⊗ (v7 ⊖ v3)) (con (pos 1) ⊗ ((v6 ⊖ v0) ⊗ (v3 ⊖ v5) ⊖ (v4 ⊖ v0) ⊗ (v3 ⊖ v7))) tt;
-    }
+    shown (pts r p q) (edge-of onLeft) (identities onLeft) (omega (zint, k .high, sub-pn (r .bottom) (r .top))) (inr (omega (zint, k .high, sub-pn (r .top) (r .bottom)))) (inl (omega zint))
+    (λ e. upright-on p (r .left) (r .top) (r .bottom) (k .high) (zeroed e)) (λ e. upright-on q (r .left) (r .top) (r .bottom) (k .high) (zeroed e))
 seen r k onTop p q =
-    record {
-      m = r .right -ℤ r .left;
-      m-pos = omega (zint, k .wide, sub-pn (r .right) (r .left));
-      p-along = ring (pts r p q) ((v4 ⊖ v0) ⊕ (v2 ⊖ v4)) (v2 ⊖ v0) tt;
-      q-along = ring (pts r p q) ((v6 ⊖ v0) ⊕ (v2 ⊖ v6)) (v2 ⊖ v0) tt;
-      e = r .right -ℤ r .left;
-      e-non = inl (omega (zint, k .wide, sub-pn (r .right) (r .left)));
-      p-off = ring (pts r p q) (crossE v4 v5 v0 v1 v2 v1) ((v2 ⊖ v0) ⊗ (v5 ⊖ v1)) tt;
-      q-off = ring (pts r p q) (crossE v6 v7 v0 v1 v2 v1) ((v2 ⊖ v0) ⊗ (v7 ⊖ v1)) tt;
-      c = negsuc 0;
-      c-non = inr (omega zint);
-      A-off = ring (pts r p q) (crossE v0 v1 v4 v5 v6 v7) (con (negsuc 0) ⊗ ((v5 ⊖ v1) ⊗ (v6 ⊖ v0) ⊖ (v7 ⊖ v1) ⊗ (v4 ⊖ v0))) tt;
-      B-off = ring (pts r p q) (crossE v2 v1 v4 v5 v6 v7) (con (negsuc 0) ⊗ ((v7 ⊖ v1) ⊗ (v2 ⊖ v4) ⊖ (v5 ⊖ v1) ⊗ (v2 ⊖ v6))) tt;
-      p-on = λ e. level-on p (r .top) (r .left) (r .right) (k .wide) (zeroed e);
-      q-on = λ e. level-on q (r .top) (r .left) (r .right) (k .wide) (zeroed e);
-      ax = pos 1;
-      ay = pos 0;
-      bx = pos 1;
-      by = pos 0;
-      A-x = ring (pts r p q) ((v7 ⊖ v1) ⊗ (v0 ⊖ v4) ⊕ (v5 ⊖ v1) ⊗ (v6 ⊖ v0)) (con (pos 1) ⊗ ((v5 ⊖ v1) ⊗ (v6 ⊖ v0) ⊖ (v7 ⊖ v1) ⊗ (v4 ⊖ v0))) tt;
-      A-y = ring (pts r p q) ((v7 ⊖ v1) ⊗ (v1 ⊖ v5) ⊕ (v5 ⊖ v1) ⊗ (v7 ⊖ v1)) (con (pos 0) ⊗ ((v5 ⊖ v1) ⊗ (v6 ⊖ v0) ⊖ (v7 ⊖ v1) ⊗ (v4 ⊖ v0))) tt;
-      B-x = ring (pts r p q) ((v7 ⊖ v1) ⊗ (v2 ⊖ v4) ⊕ (v5 ⊖ v1) ⊗ (v6 ⊖ v2)) (con (pos 1) ⊗ ((v7 ⊖ v1) ⊗ (v2 ⊖ v4) ⊖ (v5 ⊖ v1) ⊗ (v2 ⊖ v6))) tt;
-      B-y = ring (pts r p q) ((v7 ⊖ v1) ⊗ (v1 ⊖ v5) ⊕ (v5 ⊖ v1) ⊗ (v7 ⊖ v1)) (con (pos 0) ⊗ ((v7 ⊖ v1) ⊗ (v2 ⊖ v4) ⊖ (v5 ⊖ v1) ⊗ (v2 ⊖ v6))) tt;
-    }
+    shown (pts r p q) (edge-of onTop) (identities onTop) (omega (zint, k .wide, sub-pn (r .right) (r .left))) (inl (omega (zint, k .wide, sub-pn (r .right) (r .left)))) (inr (omega zint))
+    (λ e. level-on p (r .top) (r .left) (r .right) (k .wide) (zeroed e)) (λ e. level-on q (r .top) (r .left) (r .right) (k .wide) (zeroed e))
 seen r k onRight p q =
-    record {
-      m = r .bottom -ℤ r .top;
-      m-pos = omega (zint, k .high, sub-pn (r .bottom) (r .top));
-      p-along = ring (pts r p q) ((v5 ⊖ v1) ⊕ (v3 ⊖ v5)) (v3 ⊖ v1) tt;
-      q-along = ring (pts r p q) ((v7 ⊖ v1) ⊕ (v3 ⊖ v7)) (v3 ⊖ v1) tt;
-      e = r .bottom -ℤ r .top;
-      e-non = inl (omega (zint, k .high, sub-pn (r .bottom) (r .top)));
-      p-off = ring (pts r p q) (crossE v4 v5 v2 v1 v2 v3) ((v3 ⊖ v1) ⊗ (v2 ⊖ v4)) tt;
-      q-off = ring (pts r p q) (crossE v6 v7 v2 v1 v2 v3) ((v3 ⊖ v1) ⊗ (v2 ⊖ v6)) tt;
-      c = negsuc 0;
-      c-non = inr (omega zint);
-      A-off = ring (pts r p q) (crossE v2 v1 v4 v5 v6 v7) (con (negsuc 0) ⊗ ((v2 ⊖ v4) ⊗ (v7 ⊖ v1) ⊖ (v2 ⊖ v6) ⊗ (v5 ⊖ v1))) tt;
-      B-off = ring (pts r p q) (crossE v2 v3 v4 v5 v6 v7) (con (negsuc 0) ⊗ ((v2 ⊖ v6) ⊗ (v3 ⊖ v5) ⊖ (v2 ⊖ v4) ⊗ (v3 ⊖ v7))) tt;
-      p-on = λ e. upright-on p (r .right) (r .top) (r .bottom) (k .high) (zeroed′ e);
-      q-on = λ e. upright-on q (r .right) (r .top) (r .bottom) (k .high) (zeroed′ e);
-      ax = pos 0;
-      ay = pos 1;
-      bx = pos 0;
-      by = pos 1;
-      A-x = ring (pts r p q) ((v2 ⊖ v6) ⊗ (v2 ⊖ v4) ⊕ (v2 ⊖ v4) ⊗ (v6 ⊖ v2)) (con (pos 0) ⊗ ((v2 ⊖ v4) ⊗ (v7 ⊖ v1) ⊖ (v2 ⊖ v6) ⊗ (v5 ⊖ v1))) tt;
-      A-y = ring (pts r p q) ((v2 ⊖ v6) ⊗ (v1 ⊖ v5) ⊕ (v2 ⊖ v4) ⊗ (v7 ⊖ v1)) (con (pos 1) ⊗ ((v2 ⊖ v4) ⊗ (v7 ⊖ v1) ⊖ (v2 ⊖ v6) ⊗ (v5 ⊖ v1))) tt;
-      B-x = ring (pts r p q) ((v2 ⊖ v6) ⊗ (v2 ⊖ v4) ⊕ (v2 ⊖ v4) ⊗ (v6 ⊖ v2)) (con (pos 0) ⊗ ((v2 ⊖ v6) ⊗ (v3 ⊖ v5) ⊖ (v2 ⊖ v4) ⊗ (v3 ⊖ v7))) tt;
-      B-y = ring (pts r p q) ((v2 ⊖ v6) ⊗ (v3 ⊖ v5) ⊕ (v2 ⊖ v4) ⊗ (v7 ⊖ v3)) (con (pos 1) ⊗ ((v2 ⊖ v6) ⊗ (v3 ⊖ v5) ⊖ (v2 ⊖ v4) ⊗ (v3 ⊖ v7))) tt;
-    }
+    shown (pts r p q) (edge-of onRight) (identities onRight) (omega (zint, k .high, sub-pn (r .bottom) (r .top))) (inl (omega (zint, k .high, sub-pn (r .bottom) (r .top)))) (inr (omega zint))
+    (λ e. upright-on p (r .right) (r .top) (r .bottom) (k .high) (zeroed′ e)) (λ e. upright-on q (r .right) (r .top) (r .bottom) (k .high) (zeroed′ e))
 seen r k onBottom p q =
-    record {
-      m = r .right -ℤ r .left;
-      m-pos = omega (zint, k .wide, sub-pn (r .right) (r .left));
-      p-along = ring (pts r p q) ((v2 ⊖ v4) ⊕ (v4 ⊖ v0)) (v2 ⊖ v0) tt;
-      q-along = ring (pts r p q) ((v2 ⊖ v6) ⊕ (v6 ⊖ v0)) (v2 ⊖ v0) tt;
-      e = r .right -ℤ r .left;
-      e-non = inl (omega (zint, k .wide, sub-pn (r .right) (r .left)));
-      p-off = ring (pts r p q) (crossE v4 v5 v2 v3 v0 v3) ((v2 ⊖ v0) ⊗ (v3 ⊖ v5)) tt;
-      q-off = ring (pts r p q) (crossE v6 v7 v2 v3 v0 v3) ((v2 ⊖ v0) ⊗ (v3 ⊖ v7)) tt;
-      c = negsuc 0;
-      c-non = inr (omega zint);
-      A-off = ring (pts r p q) (crossE v2 v3 v4 v5 v6 v7) (con (negsuc 0) ⊗ ((v3 ⊖ v5) ⊗ (v2 ⊖ v6) ⊖ (v3 ⊖ v7) ⊗ (v2 ⊖ v4))) tt;
-      B-off = ring (pts r p q) (crossE v0 v3 v4 v5 v6 v7) (con (negsuc 0) ⊗ ((v3 ⊖ v7) ⊗ (v4 ⊖ v0) ⊖ (v3 ⊖ v5) ⊗ (v6 ⊖ v0))) tt;
-      p-on = λ e. level-on′ p (r .bottom) (r .right) (r .left) (k .wide) (zeroed′ e);
-      q-on = λ e. level-on′ q (r .bottom) (r .right) (r .left) (k .wide) (zeroed′ e);
-      ax = negsuc 0;
-      ay = pos 0;
-      bx = negsuc 0;
-      by = pos 0;
-      A-x = ring (pts r p q) ((v3 ⊖ v7) ⊗ (v2 ⊖ v4) ⊕ (v3 ⊖ v5) ⊗ (v6 ⊖ v2)) (con (negsuc 0) ⊗ ((v3 ⊖ v5) ⊗ (v2 ⊖ v6) ⊖ (v3 ⊖ v7) ⊗ (v2 ⊖ v4))) tt;
-      A-y = ring (pts r p q) ((v3 ⊖ v7) ⊗ (v3 ⊖ v5) ⊕ (v3 ⊖ v5) ⊗ (v7 ⊖ v3)) (con (pos 0) ⊗ ((v3 ⊖ v5) ⊗ (v2 ⊖ v6) ⊖ (v3 ⊖ v7) ⊗ (v2 ⊖ v4))) tt;
-      B-x = ring (pts r p q) ((v3 ⊖ v7) ⊗ (v0 ⊖ v4) ⊕ (v3 ⊖ v5) ⊗ (v6 ⊖ v0)) (con (negsuc 0) ⊗ ((v3 ⊖ v7) ⊗ (v4 ⊖ v0) ⊖ (v3 ⊖ v5) ⊗ (v6 ⊖ v0))) tt;
-      B-y = ring (pts r p q) ((v3 ⊖ v7) ⊗ (v3 ⊖ v5) ⊕ (v3 ⊖ v5) ⊗ (v7 ⊖ v3)) (con (pos 0) ⊗ ((v3 ⊖ v7) ⊗ (v4 ⊖ v0) ⊖ (v3 ⊖ v5) ⊗ (v6 ⊖ v0))) tt;
-    }
+    shown (pts r p q) (edge-of onBottom) (identities onBottom) (omega (zint, k .wide, sub-pn (r .right) (r .left))) (inl (omega (zint, k .wide, sub-pn (r .right) (r .left)))) (inr (omega zint))
+    (λ e. level-on′ p (r .bottom) (r .right) (r .left) (k .wide) (zeroed′ e)) (λ e. level-on′ q (r .bottom) (r .right) (r .left) (k .wide) (zeroed′ e))
 
 -- ---- the search's relation: the segment between p and q cuts the edge of s, either way; t is one of the neighbours
 abbrev pub CutAt : Rect64 → Side → Side → Point64 → Point64 → Type 0
