@@ -63,8 +63,8 @@ zeroed′ : {a b : ℤ} → b -ℤ a ≡ pos 0 → a ≡ b
 zeroed′ {a} {b} e = omega (zint, eq→ e, sub-pn b a)
 
 -- An edge in expressions over rectangle and points: its ends, the depths of a point on its side and on the neighbours at its first and last
--- end, its length, and three factors: e times a depth is the point's cross product with the edge, c times a cut that of an end with the
--- segment, and (dx, dy) is the direction in which the cut moves.
+-- end, its length, and its direction (dx, dy). A point's cross product with the edge is e times its depth, and that of an end with the
+-- segment is c times the cut.
 record Edge : Type 0 where
   ax : Ex
   ay : Ex
