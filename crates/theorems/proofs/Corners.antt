@@ -25,17 +25,16 @@ met k p loc = is-inside loc || (meets (suc (suc (suc (suc k)))) p loc true && me
 all-met : (k : ℕ) → every (λ p. every (met k p)) ≡ true
 all-met k = refl
 
-one-way : (inside clockwise back cw : Bool) → inside ≡ false → (inside || (clockwise && back)) ≡ true → cond cw clockwise back ≡ true
-one-way true a b cw e h = never refl e
-one-way false a b true e h = both a b h .0
-one-way false a b false e h = both a b h .1
+both-ways : (inside clockwise back : Bool) → inside ≡ false → (inside || (clockwise && back)) ≡ true → (clockwise ≡ true) × (back ≡ true)
+both-ways true a b e h = never refl e
+both-ways false a b e h = both a b h
+
+met-both : (k : ℕ) (p loc : Location) → is-inside loc ≡ false → (meets (suc (suc (suc (suc k)))) p loc true ≡ true) × (meets (suc (suc (suc (suc k)))) p loc false ≡ true)
+met-both k p loc e = both-ways (is-inside loc) _ _ e (each (met k p) (each (λ q. every (met k q)) (all-met k) p) loc)
 
 pub four : (k : ℕ) (p loc : Location) (cw : Bool) → is-inside loc ≡ false → meets (suc (suc (suc (suc k)))) p loc cw ≡ true
-four k p loc cw e = go cw (one-way (is-inside loc) (meets (suc (suc (suc (suc k)))) p loc true) (meets (suc (suc (suc (suc k)))) p loc false) cw e (each (met k p) (each (λ q. every (met k q)) (all-met k) p) loc))
-  where
-    go : (way : Bool) → cond way (meets (suc (suc (suc (suc k)))) p loc true) (meets (suc (suc (suc (suc k)))) p loc false) ≡ true → meets (suc (suc (suc (suc k)))) p loc way ≡ true
-    go true h = h
-    go false h = h
+four k p loc true e = met-both k p loc e .0
+four k p loc false e = met-both k p loc e .1
 
 -- a loop that does `act` at a location, moves on, and stops at loc
 module _ (act : Walk → Location → Try Walk) (loc : Location) (cw : Bool) (loop : ℕ → Walk → Location → Try Walk)
