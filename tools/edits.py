@@ -40,6 +40,11 @@ def read(path):
         return f.read()
 
 
+def crates_of(path):
+    """The crates of crates.txt, in its order."""
+    return re.findall(r"^[ \t]*(\w+)[ \t]*:", re.sub(r"#.*", "", read(path)), re.M)
+
+
 def functions(crate):
     """The functions of a crate; public is what others can name."""
     root = f"crates/{crate}/src"
