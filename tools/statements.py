@@ -61,12 +61,12 @@ def proofs(modules):
 def main():
     specs = [m for crate in antt.crates() for m in antt.reached(crate, "specs")]
     proved = proofs(specs + [m for crate in antt.crates() for m in antt.reached(crate, "proofs")])
-    asked, missing = statements(specs), 0
+    asked = statements(specs)
+    missing = [f"{module.path}: {name}: NO PROOF" for module, name in asked if (module.key, name) not in proved]
     for module, name in asked:
-        proof = proved.get((module.key, name))
-        missing += proof is None
-        print(f"{module.path}: {name}: {f'{proof[0].path}: {proof[1]}' if proof else 'NO PROOF'}")
-    print(f"{len(asked)} statements, {missing} without a proof")
+        if proof := proved.get((module.key, name)):
+            print(f"{module.path}: {name}: {proof[0].path}: {proof[1]}")
+    print("\n".join([*missing, f"{len(asked)} statements, {len(missing)} without a proof"]))
     sys.exit(1 if missing or not asked else 0)
 
 
