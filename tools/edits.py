@@ -2,10 +2,11 @@
 """edits.py [--logs]: are the must-fail edits what they claim? Run in the repository's root; reads the crates of crates.txt.
 
 Every public function of every library promises something (`ensures`) and has two edits or more, which are printed: those that change its own
-text or a constant that it names, and those of a private function, said by a line `of: PUBLIC from PRIVATE`: the public one calls it, and is proved from its
-promise, which has an equation (functions.py says how that is decided). An edit of specs/ names the law that refuses it, `at: FILE LAW`. Every old
-text stands once in its file, and the new one has the same control words, so that the proofs still fit. Functions that one edit changes do not call
-each other, so that each is refused for its own sake. With --logs, after `rt must-fail` or `rt ci`: each log refuses these functions and laws for a fact."""
+text or a constant that it names; those of a private function, said by a line `of: PUBLIC from PRIVATE`: the public one calls it, and is proved from its
+promise, which has an equation (functions.py says how that is decided); and those of a line `of: PUBLIC`, whose log must refuse that function itself.
+An edit of specs/ names the law that refuses it, `at: FILE LAW`. Every old text stands once in its file, and the new one has the same control words, so
+that the proofs still fit. Functions that one edit changes do not call each other, so that each is refused for its own sake.
+With --logs, after `rt must-fail` or `rt ci`: each log refuses these functions and laws for a fact (refusals.py)."""
 import glob
 import os
 import re
@@ -94,11 +95,14 @@ def check_apart(where, own, all_functions):
 
 
 def proved_from(where, part, crate, own, all_functions, promises):
-    """The public functions of a part's `of:` lines, each held to what the line says."""
+    """The public functions of a part's `of:` lines, each held to what the line says; those that the log must refuse themselves join `own`."""
+    changes = list(own)
     for public, private in part.of:
         tops = [f for f in fitting(public, all_functions) if f.public]
-        bases = [f for f in fitting(private, own) if not f.public] if private else []
-        if len(tops) != 1 or len(bases) != 1:
+        bases = [f for f in fitting(private, changes) if not f.public] if private else []
+        if len(tops) == 1 and not private:
+            own.append(tops[0])
+        elif len(tops) != 1 or len(bases) != 1:
             wrong.append(f"{where}: of: {public} from {private}: {len(tops)} public functions, {len(bases)} private ones that the paragraph changes")
         elif bases[0] not in called(tops[0], all_functions):
             wrong.append(f"{where}: {public} does not call {private}")
@@ -128,14 +132,15 @@ def check(crate, promises, logs):
         where, own = f"{crate}/{edit.label}", []
         for part in edit.parts:
             touched = changed(part, crate, all_functions)
-            own += [f for f in touched if f not in own]
-            for f in [*touched, *proved_from(where, part, crate, touched, all_functions, promises)]:
-                if f.public and edit.label not in shown[f.name]:
-                    shown[f.name].append(edit.label)
             if any(file.startswith("specs/") for file, _ in part.places) and not part.at:
                 wrong.append(f"{where}: a change of specs/ without a line `at: FILE LAW`")
             if any(not file.startswith("specs/") for file, _ in part.places) and not touched:
                 wrong.append(f"{where}: a change of no function")
+            public = list(proved_from(where, part, crate, touched, all_functions, promises))
+            own += [f for f in touched if f not in own]
+            for f in [*touched, *public]:
+                if f.public and edit.label not in shown[f.name]:
+                    shown[f.name].append(edit.label)
         check_apart(where, own, all_functions)
         if logs:
             check_log(where, Log(crate, edit.label), edit, own)
