@@ -87,21 +87,23 @@ def changed(part, crate, all_functions):
     return found
 
 
-def check_apart(where, own, all_functions):
-    for f in own:
+def check_apart(where, own, named, all_functions):
+    """None of the functions to be refused for its own sake calls one that the edit changes."""
+    for f in own + named:
         for g in called(f, all_functions):
             if g in own and g != f:
-                wrong.append(f"{where}: it changes {f.name} and {g.name}, which the first calls")
+                does = "changes" if f in own else "names"
+                wrong.append(f"{where}: it {does} {f.name}, which calls {g.name}, changed too (`of: {f.name} from {g.name}`, where that is meant)")
 
 
 def proved_from(where, part, crate, own, all_functions, promises):
-    """The public functions of a part's `of:` lines, each held to what the line says; those that the log must refuse themselves join `own`."""
-    changes = list(own)
+    """The public functions of a part's lines `of: PUBLIC from PRIVATE`, each held to what the line says, and False;
+    those of lines `of: PUBLIC`, and True: the log must refuse them themselves."""
     for public, private in part.of:
         tops = [f for f in fitting(public, all_functions) if f.public]
-        bases = [f for f in fitting(private, changes) if not f.public] if private else []
+        bases = [f for f in fitting(private, own) if not f.public] if private else []
         if len(tops) == 1 and not private:
-            own.append(tops[0])
+            yield tops[0], True
         elif len(tops) != 1 or len(bases) != 1:
             wrong.append(f"{where}: of: {public} from {private}: {len(tops)} public functions, {len(bases)} private ones that the paragraph changes")
         elif bases[0] not in called(tops[0], all_functions):
@@ -109,7 +111,7 @@ def proved_from(where, part, crate, own, all_functions, promises):
         elif not promises.has_equation(crate, bases[0]):
             wrong.append(f"{where}: the promise of {private} has no equation")
         else:
-            yield tops[0]
+            yield tops[0], False
 
 
 def check_log(where, log, edit, own):
@@ -124,29 +126,40 @@ def check_log(where, log, edit, own):
             wrong.append(f"{where}: its log does not refuse {law} of {file} for its own sake")
 
 
+def check_part(where, part, touched):
+    if any(file.startswith("specs/") for file, _ in part.places) and not part.at:
+        wrong.append(f"{where}: a change of specs/ without a line `at: FILE LAW`")
+    if any(not file.startswith("specs/") for file, _ in part.places) and not touched:
+        wrong.append(f"{where}: a change of no function")
+
+
+def check_edit(crate, edit, all_functions, promises, logs):
+    """Holds an edit to what it says; gives the functions that it is an edit of."""
+    where, own, named, counted = f"{crate}/{edit.label}", [], [], []
+    for part in edit.parts:
+        touched = changed(part, crate, all_functions)
+        check_part(where, part, touched)
+        own += touched
+        counted += touched
+        for f, alone in proved_from(where, part, crate, touched, all_functions, promises):
+            counted.append(f)
+            named += [f] if alone else []
+    check_apart(where, own, named, all_functions)
+    if logs:
+        check_log(where, Log(crate, edit.label), edit, own + named)
+    return counted
+
+
 def check(crate, promises, logs):
     all_functions = functions(crate) if os.path.exists(f"crates/{crate}/src/lib.rt") else []
-    shown = {f.name: [] for f in all_functions if f.public}
+    edits_of = {f.name: [] for f in all_functions}
     for path in sorted(glob.glob(f"crates/{crate}/must-fail/*.edit")):
         edit = parse(crate, path)
-        where, own = f"{crate}/{edit.label}", []
-        for part in edit.parts:
-            touched = changed(part, crate, all_functions)
-            if any(file.startswith("specs/") for file, _ in part.places) and not part.at:
-                wrong.append(f"{where}: a change of specs/ without a line `at: FILE LAW`")
-            if any(not file.startswith("specs/") for file, _ in part.places) and not touched:
-                wrong.append(f"{where}: a change of no function")
-            public = list(proved_from(where, part, crate, touched, all_functions, promises))
-            own += [f for f in touched if f not in own]
-            for f in [*touched, *public]:
-                if f.public and edit.label not in shown[f.name]:
-                    shown[f.name].append(edit.label)
-        check_apart(where, own, all_functions)
-        if logs:
-            check_log(where, Log(crate, edit.label), edit, own)
+        for name in {f.name for f in check_edit(crate, edit, all_functions, promises, logs)}:
+            edits_of[name].append(edit.label)
     for f in (f for f in all_functions if f.public):
-        print(f"{crate}::{f.name}: {', '.join(shown[f.name])}")
-        if len(shown[f.name]) < 2:
+        print(f"{crate}::{f.name}: {', '.join(edits_of[f.name])}")
+        if len(edits_of[f.name]) < 2:
             wrong.append(f"{crate}::{f.name}: fewer than two edits")
         if not f.facts():
             wrong.append(f"{crate}::{f.name}: it promises nothing (no `ensures`)")
@@ -159,7 +172,7 @@ def main():
     for crate in antt.crates():
         check(crate, promises, "--logs" in sys.argv)
     wrong.extend(f"{folder}: `rt ci` tries the edits of must-fail alone" for folder in glob.glob("crates/*/must-fail?*"))
-    for line in wrong:
+    for line in dict.fromkeys(wrong):
         print(line, file=sys.stderr)
     sys.exit(1 if wrong else 0)
 
