@@ -101,4 +101,4 @@ module _ (bytes : List ℕ) (e : path-refusal bytes ≡ 0) (closed : Bool) (R : 
 
   pub all-returned : ReturnedBy closed R path r results′ numbers′ → (coordinates lengths counts : List ℕ) {v : ℕ} {coordinates′ lengths′ counts′ : List ℕ}
       → _≡_ {A = Bytes} (v, coordinates′, lengths′, counts′) (sent (outcome r) results′ numbers′ coordinates lengths counts) → v ≡ 0 → ReturnedBytes closed R bytes coordinates′ lengths′ counts′
-  all-returned t coordinates lengths counts q = answer-returned closed R path numbers results results′ numbers′ coordinates lengths counts r left may-send t q bytes p
+  all-returned t coordinates lengths counts q = answer-returned closed R path results results′ numbers numbers′ coordinates lengths counts r left may-send t q bytes p

@@ -73,7 +73,7 @@ module _ (closed : Bool) (R : Rect64) (path results : List ℤ) (numbers c l k :
         exact = subst (λ (x : List ℤ). Exactness closed R (points-of x) P) p (h .exact);
       }
 
-  pub result-returned : {v : ℕ} → _≡_ {A = Bytes} (v, c′, l′, k′) (sent (drawn paths points turns) results numbers c l k) → v ≡ 0 → (bytes : List ℕ) → path ≡ read-words bytes → ReturnedBytes closed R bytes c′ l′ k′
+  result-returned : {v : ℕ} → _≡_ {A = Bytes} (v, c′, l′, k′) (sent (drawn paths points turns) results numbers c l k) → v ≡ 0 → (bytes : List ℕ) → path ≡ read-words bytes → ReturnedBytes closed R bytes c′ l′ k′
   result-returned {v} e z bytes p = go (ltb (length c) (8 * points) || ltb (length l) (4 * paths) || ltb (length k) 12) refl
     where
       go : (b : Bool) → (ltb (length c) (8 * points) || ltb (length l) (4 * paths) || ltb (length k) 12) ≡ b → ReturnedBytes closed R bytes c′ l′ k′
@@ -83,7 +83,7 @@ module _ (closed : Bool) (R : Rect64) (path results : List ℤ) (numbers c l k :
           returned-result (ap (λ (x : Bytes). x .1) y) (ap (λ (x : Bytes). x .2) y) (ap (λ (x : Bytes). x .3) y) bytes p
 
 -- ---- an answer; a refusal has no value 0
-module _ (closed : Bool) (R : Rect64) (path : List ℤ) (numbers0 : List ℕ) (results0 : List ℤ) (results : List ℤ) (numbers c l k : List ℕ) {c′ l′ k′ : List ℕ} {v : ℕ} where
+module _ (closed : Bool) (R : Rect64) (path results0 results : List ℤ) (numbers0 numbers c l k : List ℕ) {c′ l′ k′ : List ℕ} {v : ℕ} where
   pub answer-returned : (r : Answer) → _≡_ {A = Outcome × List ℤ × List ℕ} (outcome r, results, numbers) (handed results0 numbers0 (clipped closed R path)) → Sendable (outcome r) results numbers
       → ReturnedBy closed R path r results numbers → _≡_ {A = Bytes} (v, c′, l′, k′) (sent (outcome r) results numbers c l k)
       → (bytes : List ℕ) → path ≡ read-words bytes → v ≡ 0 → ReturnedBytes closed R bytes c′ l′ k′
