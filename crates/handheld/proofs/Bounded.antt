@@ -14,15 +14,15 @@ use Rattle.integers.specs.Order.{zint, add-pn, sub-pn}
 use Rattle.plane.proofs.Limits.{rect-limited}
 use Rattle.plane.specs.declared.point.Point64.{Point64}
 use Rattle.plane.specs.declared.rect.Rect64.{Rect64}
-use Rattle.plane.specs.Basics.{Try, refuse, ok, _>>=_}
+use Rattle.plane.specs.Basics.{Try, ok}
 use Rattle.plane.specs.Points.{points-of}
 use Rattle.plane.specs.Limit.{rect-in-limit, all-in-limit, LimitedRect}
 use Rattle.plane.specs.Rectangle.{is-empty, intersects, contains-rect, get-bounds-path}
 use Rattle.reference.specs.Walk.{no-room}
 use Rattle.reference.specs.Clip.{execute}
-use Rattle.reference.specs.Lines.{execute-lines}
 use Rattle.reference.specs.Entry.{Drawing, joined, drawing-of}
 use Rattle.theorems.specs.Demand.{AtMostOneOutside, is-walked}
+use Rattle.theorems.proofs.ClosedArea.{lines-drawn}
 use Rattle.theorems.proofs.FewPoints.{few-points}
 use Rattle.theorems.proofs.FewResults.{few-results}
 use Rattle.theorems.proofs.FewLines.{few-lines}
@@ -52,14 +52,9 @@ Few d = (length (joined (d .0)) ≤ 256) × (length (d .0) ≤ 257)
 
 module _ (R : Rect64) (path : List ℤ) (frame : rect-in-limit R ≡ true) (points : all-in-limit path ≡ true) where
   few-open : (d : Drawing) → drawing-of false (no-room 256) 256 R (points-of path) ≡ ok d → Few d
-  few-open d e = go (execute-lines (no-room 256) R (points-of path)) refl e
-    where
-      go : (t : Try (List (List Point64))) → execute-lines (no-room 256) R (points-of path) ≡ t → (t >>= λ paths. ok (paths, 0)) ≡ ok d → Few d
-      go (refuse n) f q = absurd (let z : _≡_ {A = ℕ} 0 1 = cc in omega arith)
-      go (ok paths) f q =
-          let z : _≡_ {A = Drawing} (paths, 0) d = cc in
-          let m = few-lines 256 R (points-of path) paths f in
-          subst Few z (m .0, omega (arith, m .1))
+  few-open d e =
+      let m = few-lines 256 R (points-of path) (d .0) (lines-drawn (no-room 256) 256 R (points-of path) d e) in
+      (m .0, omega (arith, m .1))
 
   -- a closed path that is not walked is returned whole or gives nothing
   few-closed : length path / 2 ≤ 128 → (d : Drawing) → execute (no-room 256) 256 R (points-of path) ≡ ok d → Few d

@@ -50,7 +50,7 @@ pub record Returned (closed : Bool) (rect : Rect64) (path : List ℤ) (count poi
   pub length-entries : take count lengths ≡ map length paths
   pub exact : Exactness closed rect (points-of path) paths
 
--- an answer that is a result returned them
+-- where the answer is a result: as many paths and points as its counts say
 abbrev pub ReturnedBy : Bool → Rect64 → List ℤ → Answer → List ℤ → List ℕ → Type 0
 ReturnedBy closed rect path r coordinates lengths = (c : Counts) → r ≡ Drawn c → Returned closed rect path (c .paths) (c .points) coordinates lengths
 

@@ -85,7 +85,7 @@ answered l early drawing =
     if eqb early 0 then late else record { answer = refused early; lists = l }
 
 -- ---- the two clippers, for one path
--- the drawing of a path, closed or open, with the turn allowance A; lines take no turns
+-- `RectClip64::execute` and `RectClipLines64::execute`, by the path's kind, with the turn allowance A; lines take no turns
 abbrev pub drawing-of : Bool → (ℕ → Bool) → ℕ → Rect64 → List Point64 → Try Drawing
 drawing-of true full A rect path = execute full A rect path
 drawing-of false full A rect path = execute-lines full rect path >>= λ paths. ok (paths, 0)
