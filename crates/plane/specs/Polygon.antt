@@ -8,7 +8,6 @@ use lib.ListN.{length}
 use lib.Signed.{ltZ, leZ}
 use Rattle.integers.specs.Tests.{eqZ}
 use Rattle.plane.specs.Basics.{if_then_else_}
-use Rattle.plane.specs.Intersection.{at-end}
 use Rattle.plane.specs.Points.{pt-at}
 use Rattle.plane.specs.Signs.{cross-product-sign}
 use Rattle.plane.specs.declared.location.PointInPolygonResult.{PointInPolygonResult}

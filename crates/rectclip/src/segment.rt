@@ -7,6 +7,7 @@ ghost use Rattle.plane.specs.Segment.{workingOf, crossingOf, pointAt, settledOf
 ghost use Rattle.plane.specs.Found.{NearCrossing};
 ghost use Rattle.rectclip.specs.Bounds.{Turn, LimitedTurn, cross-products};
 use plane::crossing::Crossing;
+use plane::crossing::Meeting;
 use plane::crossing::Working;
 use plane::location::Location;
 use plane::point::Point64;
@@ -141,19 +142,19 @@ pub(crate) fn point_at(w: Working, t: f64) -> Point64
     Point64 { x, y }
 }
 
-// The crossing with its fraction cut to a point.
-pub(crate) fn settled(c: Crossing, w: Working) -> Crossing
+// Where the segment and the edge meet: the crossing, its fraction cut to a point.
+pub(crate) fn settled(c: Crossing, w: Working) -> Meeting
     ensures { λ r. ⌜ r ≡ settledOf c w ⌝ }
 {
     match c {
-        Crossing::Nothing => Crossing::Nothing,
-        Crossing::At(p) => Crossing::At(p),
-        Crossing::Along(t) => Crossing::At(point_at(w, t)),
+        Crossing::Nothing => Meeting::Apart,
+        Crossing::At(p) => Meeting::Met(p),
+        Crossing::Along(t) => Meeting::Met(point_at(w, t)),
     }
 }
 
-// The crossing of the segment from a to b and the edge from c to d.
-pub(crate) fn get_segment_intersect_pt(a: Point64, b: Point64, c: Point64, d: Point64) -> Crossing
+// Where the segment from a to b and the edge from c to d meet, in binary64.
+pub(crate) fn get_segment_intersect_pt(a: Point64, b: Point64, c: Point64, d: Point64) -> Meeting
     requires { ⌜ AllLimited a b c d ⌝ }
     ensures is { λ r. ⌜ r ≡ intersection a b c d ⌝ }
     ensures near { λ r. ⌜ NearCrossing a b c d r ⌝ }
