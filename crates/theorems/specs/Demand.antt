@@ -41,7 +41,7 @@ totalArea2 (p ∷ paths) = signedArea2 p +ℤ totalArea2 paths
 unfoldable pub is-walked : Rect64 → List Point64 → Bool
 is-walked rect path = not (is-empty rect) && not (ltb (length path) 3) && intersects rect (get-bounds-path path) && not (contains-rect rect (get-bounds-path path))
 
--- the returned paths' areas add up to the walked outline's
+-- the returned paths' areas add up to the walked outline's, which is what the walk puts down and no empty stand-in: Outline (`OutlineDrawn`, `WalksOutline`)
 pub record AreaKept (rect : Rect64) (path : List Point64) (paths : List (List Point64)) : Type 0 where
   pub kept : T (is-walked rect path) → totalArea2 paths ≡ signedArea2 (walked-outline rect path)
 
