@@ -22,7 +22,7 @@ use text::writing::write_refusal;
 
 // What line 1 gives: a refusal, or the rectangle of the lines that follow; and how many bytes are written.
 pub enum Start {
-    Refused(usize),
+    Refused(Refusal, usize),
     Ready(Rect64, usize),
 }
 
@@ -37,7 +37,8 @@ fn write_why(line: i64, why: Refusal, out: &mut [u8]) -> usize
 fn unreadable_first(out: &mut [u8; 128]) -> Start
     ensures { λ r. ⌜ First unreadable (now (out .entry)) r (now (out .exit)) ⌝ }
 {
-    Start::Refused(write_why(1, Refusal::UnreadableLine, out))
+    let why = Refusal::UnreadableLine;
+    Start::Refused(why, write_why(1, why, out))
 }
 
 fn answer_rectangle(rect: Rect64, out: &mut [u8; 128]) -> Start
@@ -46,7 +47,8 @@ fn answer_rectangle(rect: Rect64, out: &mut [u8; 128]) -> Start
     if rect.in_limit() {
         return Start::Ready(rect, write_rectangle(rect, out));
     }
-    Start::Refused(write_why(1, Refusal::RectangleOutside, out))
+    let why = Refusal::RectangleOutside;
+    Start::Refused(why, write_why(1, why, out))
 }
 
 // Line 1.

@@ -1,7 +1,7 @@
 -- `program::answers::answer_line` meets its contract. Assumes nothing.
-use mathlib.Core.Path.{sym, _∙_}
+use mathlib.Core.Path.{sym, _∙_, ap}
 use mathlib.Core.Bool.{false}
-use Rattle.text.specs.Asked.{request}
+use Rattle.text.specs.Asked.{request, told}
 use native.Mathlib.Omega.{arith}
 use lib.IntN.{pos}
 use lib.ListN.{replicate, length-replicate}
@@ -47,7 +47,7 @@ returns c =
     let e : tie.After-request = search in
     let w : tie.After-answer-numbers = search in
     let f : SFits w64 (s .args .line) = search needs in
-    answer-path (s .args .rect) (s .args .line) (request false (s .args .bytes .now)) (replicate 2048 (pos 0)) (sym (e .request .given .1) ∙ r .read-line .ensures .is) (omega (arith, length-replicate 2048 (pos 0))) (r .read-line .ensures .list-after) (toZ-ofZ f) (w .answer-numbers .ensures)
+    answer-path (s .args .rect) (s .args .line) (request false (s .args .bytes .now)) (replicate 2048 (pos 0)) (ap told (sym (e .request .given .1)) ∙ r .read-line .ensures .is) (omega (arith, length-replicate 2048 (pos 0))) (r .read-line .ensures .list-after) (toZ-ofZ f) (w .answer-numbers .ensures)
 
 returns-2 : tie.Need-returns-2
 returns-2 c =
@@ -56,7 +56,7 @@ returns-2 c =
     let e : tie.After-enum-told = search in
     let w : tie.After-write-why = search in
     let f : SFits w64 (s .args .line) = search needs in
-    answer-rectangle (s .args .rect) (s .args .line) (request false (s .args .bytes .now)) (sym (e .enum-told .given .1) ∙ r .read-line .ensures .is) (refused-line 12 (search needs) (toZ-ofZ f) (w .write-why .ensures))
+    answer-rectangle (s .args .rect) (s .args .line) (request false (s .args .bytes .now)) (ap told (sym (e .enum-told .given .1)) ∙ r .read-line .ensures .is) (refused-line 12 (search needs) (toZ-ofZ f) (w .write-why .ensures))
 
 returns-3 : tie.Need-returns-3
 returns-3 c =
@@ -65,7 +65,7 @@ returns-3 c =
     let e : tie.After-enum-told2 = search in
     let w : tie.After-write-why2 = search in
     let f : SFits w64 (s .args .line) = search needs in
-    answer-nothing (s .args .rect) (s .args .line) (request false (s .args .bytes .now)) (sym (e .enum-told2 .given .1) ∙ r .read-line .ensures .is) (refused-line 12 (search needs) (toZ-ofZ f) (w .write-why2 .ensures))
+    answer-nothing (s .args .rect) (s .args .line) (request false (s .args .bytes .now)) (ap told (sym (e .enum-told2 .given .1)) ∙ r .read-line .ensures .is) (refused-line 12 (search needs) (toZ-ofZ f) (w .write-why2 .ensures))
 
 pub answer-line-spec : {M : Type 1} → statement M
 answer-line-spec =
