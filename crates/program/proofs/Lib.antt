@@ -2,3 +2,6 @@
 pub mod Fits
 pub mod Lines
 pub mod Given
+pub mod Feeds
+pub mod HeldBytes
+pub mod Taken
