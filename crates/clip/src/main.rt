@@ -1,4 +1,4 @@
-// The clip program: it reads standard input line by line and prints the answer to each.
+// The clip program: it reads standard input line by line and prints the answer to each. A write that fails ends it.
 use libc::STDOUT_FILENO;
 use plane::rect::Rect64;
 use program::answers::Start;
@@ -20,7 +20,9 @@ fn print_answers(rect: Rect64, start: Cursor, buffer: &mut [u8; 65536]) {
         }
         let k = taken.count;
         let n = answer_line(rect, number as i64, &line[..k], &mut out);
-        io::write_all(STDOUT_FILENO, &out[..n]);
+        if !io::write_all(STDOUT_FILENO, &out[..n]) {
+            return;
+        }
         cursor = taken.cursor;
         number += 1;
     }
@@ -34,12 +36,13 @@ fn main() {
     let k = first.count;
     let start = answer_first(&line[..k], &mut out);
     match start {
-        Start::Refused(n) => {
+        Start::Refused(_, n) => {
             io::write_all(STDOUT_FILENO, &out[..n]);
         }
         Start::Ready(rect, n) => {
-            io::write_all(STDOUT_FILENO, &out[..n]);
-            print_answers(rect, first.cursor, &mut buffer);
+            if io::write_all(STDOUT_FILENO, &out[..n]) {
+                print_answers(rect, first.cursor, &mut buffer);
+            }
         }
     }
 }
