@@ -1,4 +1,5 @@
-// The clip program: it reads standard input line by line and prints the answer to each. A write that fails ends it.
+// The clip program: it reads standard input line by line and prints the answer to each. It ends at the input's end, which a read that fails
+// counts as, and at a write that fails.
 use libc::STDOUT_FILENO;
 use plane::rect::Rect64;
 use program::answers::Start;
@@ -20,7 +21,8 @@ fn print_answers(rect: Rect64, start: Cursor, buffer: &mut [u8; 65536]) {
         }
         let k = taken.count;
         let n = answer_line(rect, number as i64, &line[..k], &mut out);
-        if !io::write_all(STDOUT_FILENO, &out[..n]) {
+        let written = io::write_all(STDOUT_FILENO, &out[..n]);
+        if !(written & taken.ended) {
             return;
         }
         cursor = taken.cursor;
@@ -40,7 +42,8 @@ fn main() {
             io::write_all(STDOUT_FILENO, &out[..n]);
         }
         Start::Ready(rect, n) => {
-            if io::write_all(STDOUT_FILENO, &out[..n]) {
+            let written = io::write_all(STDOUT_FILENO, &out[..n]);
+            if written & first.ended {
                 print_answers(rect, first.cursor, &mut buffer);
             }
         }

@@ -16,13 +16,9 @@ use Rattle.program.specs.declared.input.Taken.{Taken}
 use Rattle.program.specs.Taken.{before-feed, has-feed, behind-feed, has-bytes, at-hand, passed, held, TakesHeld, TakesLine, Unread, IsLine}
 use Rattle.program.proofs.Feeds.{cursor, drop-past, feed-first, Continued, continued, whole-line, none-behind, hand-left}
 
--- ---- the line so far, and whether its line feed was taken
-pub record LineTo (buffer₀ : List ℕ) (start : Cursor) (line₀ buffer line : List ℕ) (c : Cursor) (count : ℕ) (ended begun : Bool) : Type 0 where
-  pub taken : TakesLine buffer₀ start line₀ (record { cursor = c; count = count; begun = begun }) buffer line
-  pub feed : ended ≡ has-feed (at-hand buffer₀ start ++ taken .came)
-
-pub line-long : {buffer₀ : List ℕ} {start : Cursor} {line₀ buffer line : List ℕ} {c : Cursor} {count : ℕ} {ended begun : Bool} → LineTo buffer₀ start line₀ buffer line c count ended begun → length line ≡ length line₀
-line-long {buffer₀} {start} {line₀} to = ap length (to .taken .line-after) ∙ length-sets line₀ 0 (before-feed (at-hand buffer₀ start ++ to .taken .came))
+-- ---- the bytes at hand
+abbrev pub taken : Held → Bool → Taken
+taken h begun = record { cursor = h .cursor; count = h .count; begun = begun; ended = h .ended }
 
 -- a byte was passed where there was one
 begun-by : (at : ℕ) (bytes : List ℕ) → ltb at (at + passed bytes) ≡ has-bytes bytes
@@ -34,21 +30,19 @@ begun-by at (b ∷ bs) = go (eqb b 10) refl
     go false e = rw e (lt-ltb at _ (omega arith))
 
 pub line-first : {buffer : List ℕ} {start : Cursor} {line : List ℕ} {r : Held} {after : List ℕ} → TakesHeld buffer start line 0 r after
-    → LineTo buffer start line buffer after (r .cursor) (r .count) (r .ended) (ltb (start .at) (r .cursor .at))
+    → TakesLine buffer start line (taken r (ltb (start .at) (r .cursor .at))) buffer after
 line-first {buffer} {start} {line} {r} {after} t =
     let bytes = at-hand buffer start in
     let all : bytes ++ [] ≡ bytes = append-nil bytes in
     let many : 0 + min (length (before-feed bytes)) (length line - 0) ≡ min (length (before-feed bytes)) (length line) = omega arith in
     record {
-      taken = record {
-        came = [];
-        count = rw all (ap (λ (h : Held). h .count) (t .is) ∙ many);
-        line-after = rw all (t .line-after);
-        begun = rw all (ap (λ (h : Held). ltb (start .at) (h .cursor .at)) (t .is) ∙ begun-by (start .at) bytes);
-        left = rw all (ap (λ (h : Held). at-hand buffer (h .cursor)) (t .is) ∙ hand-left buffer start);
-        unread = λ e. record { none = refl; cursor = ap (λ (h : Held). h .cursor) (t .is); buffer-after = refl };
-      };
-      feed = rw all (ap (λ (h : Held). h .ended) (t .is));
+      came = [];
+      count = rw all (ap (λ (h : Held). h .count) (t .is) ∙ many);
+      line-after = rw all (t .line-after);
+      begun = rw all (ap (λ (h : Held). ltb (start .at) (h .cursor .at)) (t .is) ∙ begun-by (start .at) bytes);
+      ended = rw all (ap (λ (h : Held). h .ended) (t .is));
+      left = rw all (ap (λ (h : Held). at-hand buffer (h .cursor)) (t .is) ∙ hand-left buffer start);
+      unread = λ e. record { none = refl; cursor = ap (λ (h : Held). h .cursor) (t .is); buffer-after = refl };
     }
 
 -- ---- a buffer more
@@ -71,49 +65,52 @@ has-some [] [] h = absurd (omega arith)
 has-some [] (y ∷ ys) h = refl
 has-some (x ∷ xs) ys h = refl
 
-module _ {buffer₀ : List ℕ} {start : Cursor} {line₀ buffer line : List ℕ} {c : Cursor} {count : ℕ} {ended begun : Bool} (to : LineTo buffer₀ start line₀ buffer line c count ended begun) (e : ended ≡ false) where
+pub line-long : {buffer₀ : List ℕ} {start : Cursor} {line₀ : List ℕ} {r : Taken} {buffer line : List ℕ} → TakesLine buffer₀ start line₀ r buffer line → length line ≡ length line₀
+line-long {buffer₀} {start} {line₀} t = ap length (t .line-after) ∙ length-sets line₀ 0 (before-feed (at-hand buffer₀ start ++ t .came))
+
+-- behind a line that has not ended
+module _ {buffer₀ : List ℕ} {start : Cursor} {line₀ : List ℕ} {so-far : Taken} {buffer line : List ℕ} (to : TakesLine buffer₀ start line₀ so-far buffer line) (e : so-far .ended ≡ false) where
   abbrev all : List ℕ
-  all = at-hand buffer₀ start ++ to .taken .came
+  all = at-hand buffer₀ start ++ to .came
 
   was : has-feed all ≡ false
-  was = sym (to .feed) ∙ e
+  was = sym (to .ended) ∙ e
 
   -- the bytes at hand were no whole line
   never : {A : Type 0} → has-feed (at-hand buffer₀ start) ≡ true → A
-  never h = absurd (let z : true ≡ false = sym (feed-first (at-hand buffer₀ start) (to .taken .came) h) ∙ was in let y : _≡_ {A = ℕ} 0 1 = cc in omega arith)
+  never h = absurd (let z : true ≡ false = sym (feed-first (at-hand buffer₀ start) (to .came) h) ∙ was in let y : _≡_ {A = ℕ} 0 1 = cc in omega arith)
 
-  pub line-end : (buffer′ : List ℕ) → TakesLine buffer₀ start line₀ (record { cursor = cursor 0 0; count = count; begun = begun }) buffer′ line
+  pub line-end : (buffer′ : List ℕ) → TakesLine buffer₀ start line₀ (record { cursor = cursor 0 0; count = so-far .count; begun = so-far .begun; ended = false }) buffer′ line
   line-end buffer′ =
       record {
-        came = to .taken .came;
-        count = to .taken .count;
-        line-after = to .taken .line-after;
-        begun = to .taken .begun;
+        came = to .came;
+        count = to .count;
+        line-after = to .line-after;
+        begun = to .begun;
+        ended = sym was;
         left = sym (none-behind all was);
         unread = λ h. never h;
       }
 
-  pub line-again : {buffer′ : List ℕ} {n : ℕ} {r : Held} {line′ : List ℕ} → 0 < n → n ≤ length buffer′ → TakesHeld buffer′ (cursor 0 n) line count r line′
-      → LineTo buffer₀ start line₀ buffer′ line′ (r .cursor) (r .count) (r .ended) true
+  pub line-again : {buffer′ : List ℕ} {n : ℕ} {r : Held} {line′ : List ℕ} → 0 < n → n ≤ length buffer′ → TakesHeld buffer′ (cursor 0 n) line (so-far .count) r line′
+      → TakesLine buffer₀ start line₀ (taken r true) buffer′ line′
   line-again {buffer′} {n} {r} {line′} h f t =
       let bytes = at-hand buffer′ (cursor 0 n) in
       let some : 0 < length bytes = simp length-take (omega arith) in
-      let with : at-hand buffer₀ start ++ (to .taken .came ++ bytes) ≡ all ++ bytes = sym (append-assoc (at-hand buffer₀ start) (to .taken .came) bytes) in
+      let with : at-hand buffer₀ start ++ (to .came ++ bytes) ≡ all ++ bytes = sym (append-assoc (at-hand buffer₀ start) (to .came) bytes) in
       let more = continued all bytes was in
-      let so-far : count ≡ min (length all) (length line₀) = to .taken .count ∙ ap (λ (l : List ℕ). min (length l) (length line₀)) (whole-line all was) in
-      let stored : line ≡ sets line₀ 0 all = to .taken .line-after ∙ ap (sets line₀ 0) (whole-line all was) in
+      let had : so-far .count ≡ min (length all) (length line₀) = to .count ∙ ap (λ (l : List ℕ). min (length l) (length line₀)) (whole-line all was) in
+      let stored : line ≡ sets line₀ 0 all = to .line-after ∙ ap (sets line₀ 0) (whole-line all was) in
       let long : length line ≡ length line₀ = ap length stored ∙ length-sets line₀ 0 all in
-      let many : count + min (length (before-feed bytes)) (length line - count) ≡ min (length (before-feed (all ++ bytes))) (length line₀) = rw (more .line, length-append all (before-feed bytes)) (omega arith) in
+      let many : so-far .count + min (length (before-feed bytes)) (length line - so-far .count) ≡ min (length (before-feed (all ++ bytes))) (length line₀) = rw (more .line, length-append all (before-feed bytes)) (omega arith) in
       record {
-        taken = record {
-          came = to .taken .came ++ bytes;
-          count = rw with (ap (λ (h : Held). h .count) (t .is) ∙ many);
-          line-after = rw with (t .line-after ∙ (λ i. sets (stored i) (so-far i) (before-feed bytes)) ∙ sets-behind all (before-feed bytes) line₀ ∙ ap (sets line₀ 0) (sym (more .line)));
-          begun = rw with (sym (has-some all bytes some));
-          left = rw with (ap (λ (h : Held). at-hand buffer′ (h .cursor)) (t .is) ∙ hand-left buffer′ (cursor 0 n) ∙ sym (more .behind));
-          unread = λ h. never h;
-        };
-        feed = rw with (ap (λ (h : Held). h .ended) (t .is) ∙ sym (more .feed));
+        came = to .came ++ bytes;
+        count = rw with (ap (λ (h : Held). h .count) (t .is) ∙ many);
+        line-after = rw with (t .line-after ∙ (λ i. sets (stored i) (had i) (before-feed bytes)) ∙ sets-behind all (before-feed bytes) line₀ ∙ ap (sets line₀ 0) (sym (more .line)));
+        begun = rw with (sym (has-some all bytes some));
+        ended = rw with (ap (λ (h : Held). h .ended) (t .is) ∙ sym (more .feed));
+        left = rw with (ap (λ (h : Held). at-hand buffer′ (h .cursor)) (t .is) ∙ hand-left buffer′ (cursor 0 n) ∙ sym (more .behind));
+        unread = λ h. never h;
       }
 
 -- ---- every line

@@ -67,6 +67,7 @@ pub record TakesLine (buffer : List ℕ) (start : Cursor) (line : List ℕ) (r :
   pub count : r .count ≡ min (length (before-feed (at-hand buffer start ++ came))) (length line)
   pub line-after : line′ ≡ sets line 0 (before-feed (at-hand buffer start ++ came))
   pub begun : r .begun ≡ has-bytes (at-hand buffer start ++ came)
+  pub ended : r .ended ≡ has-feed (at-hand buffer start ++ came)
   pub left : at-hand buffer′ (r .cursor) ≡ behind-feed (at-hand buffer start ++ came)
   pub unread : has-feed (at-hand buffer start) ≡ true → Unread buffer start came r buffer′
 

@@ -19,11 +19,13 @@ pub struct Held {
     pub ended: bool,
 }
 
-// A line at the front of the line's list: how many of its bytes are there, and whether there was one at all.
+// A line at the front of the line's list: how many of its bytes are there, whether there was one at all, and whether a line feed ended it. One
+// that has begun and not ended is the input's last.
 pub struct Taken {
     pub cursor: Cursor,
     pub count: usize,
     pub begun: bool,
+    pub ended: bool,
 }
 
 fn least(a: usize, b: usize) -> usize
@@ -72,43 +74,43 @@ fn read_more(buffer: &mut [u8; 65536]) -> usize
 }
 
 // The next line, line feed left out. Of a line that is too long, as much is kept as `line` can hold.
+// Which bytes a read brings is left open; the line, the cursor and the buffer are promised by the bytes at hand and those that came.
 // A proved loop has to end, and nothing says that a line does: the reads are counted down from a number that no run uses up.
 pub fn take_line(buffer: &mut [u8; 65536], start: Cursor, line: &mut [u8]) -> Taken
     ensures taken { λ r. ⌜ TakesLine (now (buffer .entry)) start (now (line .entry)) r (now (buffer .exit)) (now (line .exit)) ⌝ }
     ensures line { λ r. ⌜ IsLine (now (line .entry)) r (now (line .exit)) ⌝ }
 {
     let first = take_held(buffer, start, line, 0);
-    let mut cursor = first.cursor;
-    let mut count = first.count;
-    let mut ended = first.ended;
-    let mut begun = start.at < cursor.at;
+    let behind = first.cursor;
+    let mut taken = Taken {
+        cursor: behind,
+        count: first.count,
+        begun: start.at < behind.at,
+        ended: first.ended,
+    };
     let mut reads = u64::MAX;
     while reads > 0 {
-        if ended {
-            return Taken {
-                cursor,
-                count,
-                begun,
-            };
+        if taken.ended {
+            return taken;
         }
         let n = read_more(buffer);
         if n == 0 {
             return Taken {
                 cursor: Cursor { at: 0, end: 0 },
-                count,
-                begun,
+                count: taken.count,
+                begun: taken.begun,
+                ended: false,
             };
         }
-        let next = take_held(buffer, Cursor { at: 0, end: n }, line, count);
-        cursor = next.cursor;
-        count = next.count;
-        ended = next.ended;
-        begun = true;
+        let next = take_held(buffer, Cursor { at: 0, end: n }, line, taken.count);
+        let after = next.cursor;
+        taken = Taken {
+            cursor: after,
+            count: next.count,
+            begun: true,
+            ended: next.ended,
+        };
         reads -= 1;
     }
-    Taken {
-        cursor,
-        count,
-        begun,
-    }
+    taken
 }

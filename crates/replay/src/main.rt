@@ -1,5 +1,6 @@
 // The replay program: each stored drawing is answered again, and the answer compared with the stored one. It prints the line of
-// each drawing whose answer differs, then how many drawings there are and how many answers are as stored. A write that fails ends it.
+// each drawing whose answer differs, then how many drawings there are and how many answers are as stored. A read that fails
+// counts as the input's end, and a write that fails ends it.
 ghost use Rattle.replay.specs.Fits.{Fits};
 
 mod replay;
@@ -25,7 +26,7 @@ fn replay_lines(answer: &mut [u8; 12288], stored: &mut [u8; 12288]) -> Replay
         }
         let k = taken.count;
         state = state.next(number, &line[..k], answer, stored);
-        if state.stopped {
+        if state.stopped | !taken.ended {
             return state;
         }
         cursor = taken.cursor;

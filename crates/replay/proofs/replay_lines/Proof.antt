@@ -1,6 +1,7 @@
 -- `replay::replay_lines` meets its contract. Assumes nothing.
 use mathlib.Core.Path.{_≡_, sym}
 use Prim.Native.Nat.{_-_}
+use native.Mathlib.Omega.{arith}
 use lib.ListN.{length}
 use lib.Seq.{length-take-le}
 use Rattle.replay.specs.Fits.{Fits}
@@ -42,10 +43,10 @@ returns-2 : tie.Need-returns-2 Inv-loop μ-loop
 returns-2 c = search needs
 
 add-number : tie.Need-add-number Inv-loop μ-loop
-add-number c = search needs
+add-number c = let t : tie.In-loop Inv-loop μ-loop = search in omega (arith, t .loop-test .taken)
 
 loop-less : tie.Need-loop-less Inv-loop μ-loop
-loop-less c = search needs
+loop-less c = let t : tie.In-loop Inv-loop μ-loop = search in omega (arith, t .loop-test .taken)
 
 loop-again : tie.Need-loop-again Inv-loop μ-loop
 loop-again c = search needs

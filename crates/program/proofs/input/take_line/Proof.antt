@@ -5,22 +5,23 @@ use mathlib.Core.List.{List}
 use Prim.Native.Nat.{ℕ}
 use borrow.Author.Needs.{needs}
 use Rattle.program.specs.declared.input.Cursor.{Cursor}
-use Rattle.program.proofs.Taken.{LineTo, line-long, line-first, line-end, line-again, is-line}
+use Rattle.program.specs.Taken.{TakesLine}
+use Rattle.program.proofs.Taken.{line-long, line-first, line-end, line-again, is-line}
 use Rattle.program.proofs.input.take_line.Statement.{statement}
 use Rattle.program.proofs.input.take_line.Tie as tie
 
 -- of whatever line it was that the loop began with
 abbrev Inv-loop : tie.InvT-loop
-Inv-loop buffer₀ line₀ cursor₀ count₀ ended₀ begun₀ reads₀ buffer line cursor count ended begun reads =
-    (start : Cursor) (before : List ℕ) → LineTo buffer₀ start before buffer₀ line₀ cursor₀ count₀ ended₀ begun₀ → LineTo buffer₀ start before buffer line cursor count ended begun
+Inv-loop buffer₀ line₀ taken₀ reads₀ buffer line taken reads =
+    (start : Cursor) (before : List ℕ) → TakesLine buffer₀ start before taken₀ buffer₀ line₀ → TakesLine buffer₀ start before taken buffer line
 
 abbrev μ-loop : tie.MeasureT-loop
-μ-loop buffer₀ line₀ cursor₀ count₀ ended₀ begun₀ reads₀ buffer line cursor count ended begun reads = reads
+μ-loop buffer₀ line₀ taken₀ reads₀ buffer line taken reads = reads
 
 -- of the line that it was handed
 known : (a : tie.At-loop Inv-loop μ-loop)
     → (let s : tie.Start Inv-loop μ-loop = a .before .before .before .before .before .before .before .before .before .before .before in
-    LineTo (s .args .buffer .now) (s .args .start) (s .args .line .now) (a .loop .buffer) (a .loop .line) (a .loop .cursor) (a .loop .count) (a .loop .ended) (a .loop .begun))
+    TakesLine (s .args .buffer .now) (s .args .start) (s .args .line .now) (a .loop .taken) (a .loop .buffer) (a .loop .line))
 known a =
     let s : tie.Start Inv-loop μ-loop = search in
     let t : tie.After-take-held Inv-loop μ-loop = search in
@@ -38,7 +39,7 @@ same-length c = let a : tie.At-loop Inv-loop μ-loop = search in line-long (know
 returns : tie.Need-returns Inv-loop μ-loop
 returns c =
     let a : tie.At-loop Inv-loop μ-loop = search in
-    (known a .taken, is-line (known a .taken))
+    (known a, is-line (known a))
 
 read-more-requires : tie.Need-read-more-requires Inv-loop μ-loop
 read-more-requires c κs = search needs
@@ -76,7 +77,7 @@ same-length-3 c = let a : tie.At-loop Inv-loop μ-loop = search in line-long (kn
 returns-3 : tie.Need-returns-3 Inv-loop μ-loop
 returns-3 c =
     let a : tie.At-loop Inv-loop μ-loop = search in
-    (known a .taken, is-line (known a .taken))
+    (known a, is-line (known a))
 
 pub take-line-spec : {M : Type 1} → statement M
 take-line-spec =
