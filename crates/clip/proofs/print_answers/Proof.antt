@@ -39,10 +39,10 @@ answer-line-requires : tie.Need-answer-line-requires Inv-loop μ-loop
 answer-line-requires c κs = search needs
 
 array-share-prefix-out : tie.Need-array-share-prefix-out Inv-loop μ-loop
-array-share-prefix-out c = let t : tie.After-answer-line Inv-loop μ-loop = search in gives-within (t .answer-line .ensures)
+array-share-prefix-out c = let t : tie.After-answer-line Inv-loop μ-loop = search in gives-within (t .answer-line .ensures .0)
 
 slice-aggregate-write-all : tie.Need-slice-aggregate-write-all Inv-loop μ-loop
-slice-aggregate-write-all c = let t : tie.After-answer-line Inv-loop μ-loop = search in sym (length-take-le _ _ (gives-within (t .answer-line .ensures)))
+slice-aggregate-write-all c = let t : tie.After-answer-line Inv-loop μ-loop = search in sym (length-take-le _ _ (gives-within (t .answer-line .ensures .0)))
 
 write-all-requires : tie.Need-write-all-requires Inv-loop μ-loop
 write-all-requires c κs = search needs
