@@ -13,11 +13,11 @@ use Rattle.plane.specs.Basics.{Try, refuse, ok}
 use Rattle.reference.specs.Entry.{Drawing}
 use Rattle.handheld.specs.Drawn.{clipped}
 use Rattle.handheld.proofs.Exact.{always-exact}
-use Rattle.text.specs.Reading.{Request, path}
+use Rattle.text.specs.Reading.{Request}
 use Rattle.text.specs.Printing.{refusal-line}
 use Rattle.program.specs.Printed.{Gives, numbers-answer}
 use Rattle.program.specs.Answered.{path-answer, answer}
-use Rattle.program.specs.Exact.{is-refusal, ExactUnlessRefused, PrintsExact}
+use Rattle.program.specs.Exact.{ExactUnlessRefused, PrintsExact}
 
 -- ---- the bytes of an answer
 module _ (closed : Bool) (R : Rect64) (line : ℤ) (zs : List ℤ) where

@@ -8,13 +8,13 @@ use native.Mathlib.Omega.{arith}
 use lib.ListN.{length, take, drop, length-append, length-take}
 use lib.Seq.{sets, length-sets, take-nil, take-at, drop-at}
 use lib.Dec.{eqb, ltb}
-use borrow.Author.Tests.{eqb-true, eqb-false, lt-ltb, le-ltb, ltb-true, ltb-false}
+use borrow.Author.Tests.{eqb-false, lt-ltb, le-ltb, ltb-true, ltb-false}
 use Rattle.text.proofs.Stores.{sets-append, sets-out, sets-lead}
 use Rattle.program.specs.declared.input.Cursor.{Cursor}
 use Rattle.program.specs.declared.input.Held.{Held}
 use Rattle.program.specs.declared.input.Taken.{Taken}
-use Rattle.program.specs.Taken.{before-feed, has-feed, behind-feed, has-bytes, at-hand, passed, held, TakesHeld, TakesLine, Unread, IsLine}
-use Rattle.program.proofs.Feeds.{cursor, drop-past, feed-first, Continued, continued, whole-line, none-behind, hand-left}
+use Rattle.program.specs.Taken.{before-feed, has-feed, has-bytes, at-hand, passed, TakesHeld, TakesLine, IsLine}
+use Rattle.program.proofs.Feeds.{cursor, drop-past, feed-first, continued, whole-line, none-behind, hand-left}
 
 -- ---- the bytes at hand
 abbrev pub taken : Held → Bool → Taken

@@ -1,6 +1,5 @@
 -- `program::input::take_line` meets its contract: whatever is read, the loop takes a buffer at a time; the measure is the number of reads that
 -- are left. Assumes nothing.
-use mathlib.Core.Path.{_≡_}
 use mathlib.Core.List.{List}
 use Prim.Native.Nat.{ℕ}
 use borrow.Author.Needs.{needs}
