@@ -1,12 +1,14 @@
 #!/usr/bin/env python3
 """readme.py: runs what README.md shows. A block behind `<!-- run -->` is run by bash in the repository's folder, one behind `<!-- prints -->` is what the
-run before it prints, and one behind `<!-- file: NAME -->` is that file. Says which blocks it tried; ends with 1 where one differs or fails."""
+run before it prints, and one behind `<!-- file: NAME -->` is that file. Says which blocks it tried; ends with 1 where one differs or fails, or
+where there are not as many of each kind as EXPECTED says."""
 import re
 import subprocess
 import sys
 from pathlib import Path
 
 ROOT = Path(__file__).resolve().parent.parent
+EXPECTED = {"run": 3, "prints": 1, "file": 1}
 MARK = re.compile(r"<!-- (run|prints|file: (\S+)) -->$")
 
 
@@ -32,7 +34,7 @@ def run(commands):
 
 def main():
     lines = (ROOT / "README.md").read_text().split("\n")
-    failed, tried, printed = 0, 0, ""
+    failed, printed, tried = 0, "", dict.fromkeys(EXPECTED, 0)
     for at, line in enumerate(lines):
         mark = MARK.match(line)
         if not mark:
@@ -45,11 +47,13 @@ def main():
             good = printed == "\n".join(shown) + "\n"
         else:
             good = (ROOT / mark[2]).read_text() == "\n".join(shown) + "\n"
-        tried += 1
+        tried[mark[1].split(":")[0]] += 1
         failed += not good
         print(f"README.md:{at + 1}: {mark[1]}: {'as shown' if good else 'NOT as shown'}")
-    print(f"{tried} blocks of README.md tried, {failed} not as shown")
-    return failed > 0 or tried == 0
+    print(f"{sum(tried.values())} blocks of README.md tried, {failed} not as shown")
+    if tried != EXPECTED:
+        print(f"README.md has {tried} blocks, and {EXPECTED} are expected: a mark is missing, or EXPECTED in tools/readme.py is to be changed")
+    return failed > 0 or tried != EXPECTED
 
 
 if __name__ == "__main__":

@@ -3,12 +3,12 @@
 
     tables.py --out FOLDER [--title NAME] [--each N] [--theorems N] < ROWS
 
-ROWS is what compare's `drawings` prints (compare/src/drawings.rs describes it). Run it in the repository's
-root. FOLDER receives Cases.antt (what a case is and
-what is shown of it) and NAME1.antt, NAME2.antt .. with one list of N cases a theorem; the lines for Lib.antt are printed.
+ROWS is what compare's `drawings` prints (compare/src/drawings.rs describes it). Run it in the repository's root. FOLDER receives Cases.antt (what
+a case is and what is shown of it) and NAME1.antt, NAME2.antt .. with one list of N cases a theorem; the lines for Lib.antt are printed.
 """
 import argparse
 import pathlib
+import re
 import sys
 
 import unfold
@@ -31,9 +31,9 @@ use Rattle.reference.specs.Walk.{walked-outline}
 TABLE_USES = """\
 use mathlib.Core.Path.{_≡_, refl}
 use mathlib.Core.List.{List, [], _∷_, map}
-use lib.IntN.{ℤ, pos}
-use Rattle.drawings.specs.Cases.{Case, C, U, L, R, minus, returned, refusal, shown}
+use lib.IntN.{pos}
 """
+CASE_NAMES = ["Case", "C", "U", "L", "R", "minus", "returned", "refusal", "shown"]
 
 CASES = """\
 -- A drawing with the Rust's answer: what is given to an entry, and what is shown of the call.
@@ -135,17 +135,19 @@ def case(row):
     return f"    {given}\n    {expected(answer, paths, numbers(outline) if walked else [])} ∷\n"
 
 
-def table_file(name, groups, uses, names):
-    """One file: a list of cases and a theorem for each group of rows."""
-    parts = [f"-- Drawings with the Rust's answers: what the entries answer and fill, and the walked outline.\n"
-             f"-- Made by tools/tables.py from rows of compare's `drawings`. Assumes nothing.\n{TABLE_USES}"
-             + "\n".join(uses) + "\n"]
+def table_file(groups, uses, names):
+    """One file: a list of cases and a theorem for each group of rows. It brings in the names of Cases.antt that it uses."""
+    parts = []
     for number, rows in enumerate(groups, 1):
         cases = "".join(case(row) for row in rows)
         parts.append(f"abbrev table{number} : List Case\ntable{number} =\n{cases}    []\n")
         parts.append(f"drawings{number} : map shown table{number} ≡ map (λ c. c .expected) table{number}\n"
                      f"unfolding {' '.join(names)}\ndrawings{number} = refl\n")
-    return "\n".join(parts)
+    used = set(re.findall(r"[\w-]+", "".join(parts)))
+    head = (f"-- Drawings with the Rust's answers: what the entries answer and fill, and the walked outline.\n"
+            f"-- Made by tools/tables.py from rows of compare's `drawings`. Assumes nothing.\n{TABLE_USES}"
+            f"use Rattle.drawings.specs.Cases.{{{', '.join(n for n in CASE_NAMES if n in used)}}}\n")
+    return "\n".join([head + "\n".join(uses) + "\n", *parts])
 
 
 def split(items, size):
@@ -165,7 +167,7 @@ def main():
     print("pub mod Cases")
     for number, groups in enumerate(split(split(rows, given.each), given.theorems), 1):
         name = f"{given.title}{number}"
-        (given.out / f"{name}.antt").write_text(table_file(name, groups, uses, names))
+        (given.out / f"{name}.antt").write_text(table_file(groups, uses, names))
         print(f"pub mod {name}")
 
 

@@ -6,7 +6,7 @@ import os
 import re
 import sys
 
-IEEE = 'ofInt sub mul div neg toSigned eq le'.split()
+IEEE = 'ofInt sub mul div neg toSigned eq lt le'.split()
 SKIP = {'Lib', 'Found', 'Drawings', 'Refusals', 'Examples', 'Exported'}
 
 

@@ -1,4 +1,5 @@
-// The clip program: it reads standard input line by line and prints the answer to each.
+// The clip program: it reads standard input line by line and prints the answer to each. It ends at the input's end, which a read that fails
+// counts as, and at a write that fails.
 use libc::STDOUT_FILENO;
 use plane::rect::Rect64;
 use program::answers::Start;
@@ -20,7 +21,10 @@ fn print_answers(rect: Rect64, start: Cursor, buffer: &mut [u8; 65536]) {
         }
         let k = taken.count;
         let n = answer_line(rect, number as i64, &line[..k], &mut out);
-        io::write_all(STDOUT_FILENO, &out[..n]);
+        let written = io::write_all(STDOUT_FILENO, &out[..n]);
+        if !(written & taken.ended) {
+            return;
+        }
         cursor = taken.cursor;
         number += 1;
     }
@@ -34,12 +38,14 @@ fn main() {
     let k = first.count;
     let start = answer_first(&line[..k], &mut out);
     match start {
-        Start::Refused(n) => {
+        Start::Refused(_, n) => {
             io::write_all(STDOUT_FILENO, &out[..n]);
         }
         Start::Ready(rect, n) => {
-            io::write_all(STDOUT_FILENO, &out[..n]);
-            print_answers(rect, first.cursor, &mut buffer);
+            let written = io::write_all(STDOUT_FILENO, &out[..n]);
+            if written & first.ended {
+                print_answers(rect, first.cursor, &mut buffer);
+            }
         }
     }
 }

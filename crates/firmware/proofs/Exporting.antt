@@ -16,12 +16,14 @@ use Rattle.reference.specs.Entry.{Outcome, filled, sheet-refusal}
 use Rattle.reference.specs.Exported.{Bytes, read-words, exported}
 use Rattle.entry.specs.declared.answer.Answer.{Answer}
 use Rattle.entry.specs.Answers.{outcome}
-use Rattle.rectclip.specs.Promises.{Leaves}
+use Rattle.rectclip.specs.Promises.{Leaves, ReturnedBy}
 use Rattle.handheld.specs.Called.{called}
 use Rattle.handheld.specs.Drawn.{clipped, handed}
 use Rattle.handheld.proofs.HandsOver.{hands-over}
+use Rattle.firmware.specs.ReadBack.{ReturnedBytes}
 use Rattle.firmware.specs.Sending.{path-refusal, sent, Sendable}
 use Rattle.firmware.proofs.Bytes.{read-length}
+use Rattle.firmware.proofs.Returned.{answer-returned}
 use Rattle.firmware.proofs.Sending.{sendable, exported-by, sent-is}
 
 -- a choice between a refusal and more that is 0
@@ -96,3 +98,7 @@ module _ (bytes : List ℕ) (e : path-refusal bytes ≡ 0) (closed : Bool) (R : 
       q ∙ sent-is results numbers coordinates lengths counts (clipped closed R path) left
       ∙ ap (λ (read : List ℤ). exported-by (clipped closed R read) coordinates lengths counts) p
       ∙ exported-is bytes e closed R coordinates lengths counts
+
+  pub all-returned : ReturnedBy closed R path r results′ numbers′ → (coordinates lengths counts : List ℕ) {v : ℕ} {coordinates′ lengths′ counts′ : List ℕ}
+      → _≡_ {A = Bytes} (v, coordinates′, lengths′, counts′) (sent (outcome r) results′ numbers′ coordinates lengths counts) → v ≡ 0 → ReturnedBytes closed R bytes coordinates′ lengths′ counts′
+  all-returned t coordinates lengths counts q = answer-returned closed R path results results′ numbers numbers′ coordinates lengths counts r left may-send t q bytes p

@@ -2,5 +2,6 @@
 pub mod Bytes
 pub mod Signs
 pub mod Sending
-pub mod Exporting
 pub mod ReadBack
+pub mod Returned
+pub mod Exporting

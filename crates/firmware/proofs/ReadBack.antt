@@ -5,6 +5,7 @@ use mathlib.Core.List.{List, [], _∷_, _++_, map, List·Memᴰ, List·Memᴰ·h
 use Prim.Native.Nat.{ℕ, suc, _+_, _-_, _*_, _/_, _%_, _<_, _≤_}
 use native.Mathlib.Omega.{arith}
 use native.Mathlib.Nat.{div-div-eq-div-mul}
+use lib.ListN.{length, length-append}
 use lib.IntN.{ℤ, pos, negsuc, natAbs}
 use borrow.Author.Tests.{lt-ltb, le-ltb}
 use Rattle.integers.specs.Order.{zint, sub-pn}
@@ -39,7 +40,18 @@ signed-bits : (z : ℤ) → natAbs z ≤ 33554433 → signed (bits z) ≡ z
 signed-bits (pos n) h = rw (lt-ltb n 2147483648 (omega arith)) refl
 signed-bits (negsuc n) h = rw (le-ltb (4294967296 - suc n) 2147483648 (omega arith)) (omega (zint, sub-pn (pos (4294967296 - suc n)) (pos 4294967296)))
 
--- ---- a list of them
+-- ---- counts and lengths
+pub count-read : (n : ℕ) → n ≤ 257 → signed (n % 256 + 256 * (n / 256 % 256) + 65536 * (n / 65536 % 256) + 16777216 * (n / 16777216 % 256)) ≡ pos n
+count-read n h = ap signed (back-bytes n (omega arith)) ∙ rw (lt-ltb n 2147483648 (omega arith)) refl
+
+pub lengths-read : (paths : List (List Point64)) → length (joined paths) ≤ 257 → read-words (words (map length paths)) ≡ map (λ q. pos (length q)) paths
+lengths-read [] h = refl
+lengths-read (q ∷ paths) h =
+    let e = count-read (length q) (omega (arith, length-append q (joined paths))) in
+    let f = lengths-read paths (omega (arith, length-append q (joined paths))) in
+    λ i. e i ∷ f i
+
+-- ---- a list of coordinates
 data Small : List ℤ → Type 0 where
   none : Small []
   more : {z : ℤ} {cs : List ℤ} → natAbs z ≤ 33554433 → Small cs → Small (z ∷ cs)

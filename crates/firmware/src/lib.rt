@@ -5,6 +5,7 @@ ghost use Rattle.plane.specs.Rectangle.{rect};
 ghost use Rattle.reference.specs.Entry.{drawn};
 ghost use Rattle.reference.specs.Exported.{exported};
 ghost use Rattle.entry.specs.Answers.{outcome};
+ghost use Rattle.firmware.specs.ReadBack.{ReturnedBytes};
 ghost use Rattle.firmware.specs.Sending.{path-refusal, sent, Sendable};
 use entry::answer::Answer;
 use entry::answer::Counts;
@@ -86,7 +87,8 @@ fn clip_bytes(
     lengths: &mut [u8],
     counts: &mut [u8],
 ) -> u32
-    ensures { λ r. ⌜ (r, now (coordinates .exit), now (lengths .exit), now (counts .exit)) ≡ exported closed rect (now (path .entry)) (now (coordinates .entry)) (now (lengths .entry)) (now (counts .entry)) ⌝ }
+    ensures bytes { λ r. ⌜ (r, now (coordinates .exit), now (lengths .exit), now (counts .exit)) ≡ exported closed rect (now (path .entry)) (now (coordinates .entry)) (now (lengths .entry)) (now (counts .entry)) ⌝ }
+    ensures returned { λ r. ⌜ (r ≡ 0 → ReturnedBytes closed rect (now (path .entry)) (now (coordinates .exit)) (now (lengths .exit)) (now (counts .exit))) ⌝ }
 {
     let early = path_refusal(path);
     if early != 0 {
@@ -113,7 +115,8 @@ pub extern "C" fn rect_clip_lines64(
     lengths: &mut [u8],
     counts: &mut [u8],
 ) -> u32
-    ensures { λ r. ⌜ (r, now (coordinates .exit), now (lengths .exit), now (counts .exit)) ≡ exported false (rect left top right bottom) (now (path .entry)) (now (coordinates .entry)) (now (lengths .entry)) (now (counts .entry)) ⌝ }
+    ensures bytes { λ r. ⌜ (r, now (coordinates .exit), now (lengths .exit), now (counts .exit)) ≡ exported false (rect left top right bottom) (now (path .entry)) (now (coordinates .entry)) (now (lengths .entry)) (now (counts .entry)) ⌝ }
+    ensures returned { λ r. ⌜ (r ≡ 0 → ReturnedBytes false (rect left top right bottom) (now (path .entry)) (now (coordinates .exit)) (now (lengths .exit)) (now (counts .exit))) ⌝ }
 {
     let rect = Rect64::new(left, top, right, bottom);
     clip_bytes(false, rect, path, coordinates, lengths, counts)
@@ -131,7 +134,8 @@ pub extern "C" fn rect_clip64(
     lengths: &mut [u8],
     counts: &mut [u8],
 ) -> u32
-    ensures { λ r. ⌜ (r, now (coordinates .exit), now (lengths .exit), now (counts .exit)) ≡ exported true (rect left top right bottom) (now (path .entry)) (now (coordinates .entry)) (now (lengths .entry)) (now (counts .entry)) ⌝ }
+    ensures bytes { λ r. ⌜ (r, now (coordinates .exit), now (lengths .exit), now (counts .exit)) ≡ exported true (rect left top right bottom) (now (path .entry)) (now (coordinates .entry)) (now (lengths .entry)) (now (counts .entry)) ⌝ }
+    ensures returned { λ r. ⌜ (r ≡ 0 → ReturnedBytes true (rect left top right bottom) (now (path .entry)) (now (coordinates .exit)) (now (lengths .exit)) (now (counts .exit))) ⌝ }
 {
     let rect = Rect64::new(left, top, right, bottom);
     clip_bytes(true, rect, path, coordinates, lengths, counts)

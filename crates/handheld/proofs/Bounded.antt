@@ -3,54 +3,32 @@
 use mathlib.Core.Path.{_≡_, refl, subst}
 use mathlib.Core.Bool.{Bool, true, false}
 use mathlib.Core.List.{List, [], _∷_}
-use Prim.Native.Nat.{ℕ, suc, _/_, _%_, _≤_}
+use Prim.Native.Nat.{ℕ, suc, _/_, _≤_}
 use native.Mathlib.Omega.{arith}
 use lib.ListN.{length, length-append}
-use lib.Dec.{eqb, ltb}
+use lib.Dec.{ltb}
 use lib.IntN.{ℤ, pos, negsuc, natAbs, _+ℤ_, _-ℤ_}
 use lib.Signed.{_≤ℤ_}
-use borrow.Author.Tests.{ltb-false}
 use Rattle.integers.specs.Tests.{T-of}
 use Rattle.integers.specs.Order.{zint, add-pn, sub-pn}
 use Rattle.plane.proofs.Limits.{rect-limited}
 use Rattle.plane.specs.declared.point.Point64.{Point64}
 use Rattle.plane.specs.declared.rect.Rect64.{Rect64}
-use Rattle.plane.specs.Basics.{Try, refuse, ok, _>>=_}
+use Rattle.plane.specs.Basics.{Try, ok}
 use Rattle.plane.specs.Points.{points-of}
 use Rattle.plane.specs.Limit.{rect-in-limit, all-in-limit, LimitedRect}
 use Rattle.plane.specs.Rectangle.{is-empty, intersects, contains-rect, get-bounds-path}
 use Rattle.reference.specs.Walk.{no-room}
 use Rattle.reference.specs.Clip.{execute}
-use Rattle.reference.specs.Lines.{execute-lines}
-use Rattle.reference.specs.Entry.{Drawing, joined, sheet-refusal}
-use Rattle.theorems.specs.Demand.{AtMostOneOutside, Sourced, is-walked}
-use Rattle.theorems.proofs.ClosedArea.{call-bounded, demand-3}
+use Rattle.reference.specs.Entry.{Drawing, joined, drawing-of}
+use Rattle.theorems.specs.Demand.{AtMostOneOutside, is-walked}
+use Rattle.theorems.proofs.ClosedArea.{lines-drawn}
 use Rattle.theorems.proofs.FewPoints.{few-points}
 use Rattle.theorems.proofs.FewResults.{few-results}
 use Rattle.theorems.proofs.FewLines.{few-lines}
 use Rattle.rectclip.proofs.Coordinates.{points-length}
-use Rattle.handheld.specs.Drawn.{drawing-of, clipped, Bounded, AlwaysBounded}
-
--- ---- what is known of a path that is not refused
-record Admitted (closed : Bool) (R : Rect64) (path : List ℤ) (d : Drawing) : Type 0 where
-  pub short : length path / 2 ≤ 128
-  pub frame : rect-in-limit R ≡ true
-  pub points : all-in-limit path ≡ true
-  pub drawn : drawing-of closed R path ≡ ok d
-
-admitted : (closed : Bool) (R : Rect64) (path : List ℤ) (d : Drawing) → clipped closed R path ≡ ok d → Admitted closed R path d
-unfolding clipped sheet-refusal
-admitted closed R path d e = go (eqb (length path % 2) 1) refl (ltb 128 (length path / 2)) refl (rect-in-limit R) refl (all-in-limit path) refl
-  where
-    refuses : {n : ℕ} → _≡_ {A = Try Drawing} (refuse n) (ok d) → Admitted closed R path d
-    refuses q = absurd (let z : _≡_ {A = ℕ} 0 1 = cc in omega arith)
-
-    go : (a : Bool) → eqb (length path % 2) 1 ≡ a → (b : Bool) → ltb 128 (length path / 2) ≡ b → (s : Bool) → rect-in-limit R ≡ s → (t : Bool) → all-in-limit path ≡ t → Admitted closed R path d
-    go true p b q s u t v = refuses (rw p at e)
-    go false p true q s u t v = refuses (rw (p, q) at e)
-    go false p false q false u t v = refuses (rw (p, q, u) at e)
-    go false p false q true u false v = refuses (rw (p, q, u, v) at e)
-    go false p false q true u true v = record { short = ltb-false 128 (length path / 2) q; frame = u; points = v; drawn = rw (p, q, u, v) at e }
+use Rattle.handheld.specs.Drawn.{AlwaysBounded}
+use Rattle.handheld.proofs.Exact.{admitted, always-exact}
 
 -- ---- coordinates
 upper : (b : ℤ) (n : ℕ) → natAbs b ≤ 33554432 → pos n ≤ℤ (b +ℤ pos 1) → n ≤ 33554433
@@ -73,16 +51,10 @@ abbrev Few : Drawing → Type 0
 Few d = (length (joined (d .0)) ≤ 256) × (length (d .0) ≤ 257)
 
 module _ (R : Rect64) (path : List ℤ) (frame : rect-in-limit R ≡ true) (points : all-in-limit path ≡ true) where
-  bounded : {closed : Bool} (d : Drawing) → Sourced closed R (points-of path) (d .0) → Few d → Bounded d
-  bounded d s m = record { points = m .0; paths = m .1; near = λ q i p j. near R (rect-limited R (T-of frame)) p (s .close-by q i p j) }
-
-  lines : (t : Try (List (List Point64))) → execute-lines (no-room 256) R (points-of path) ≡ t → (d : Drawing) → (t >>= λ paths. ok (paths, 0)) ≡ ok d → Bounded d
-  lines (refuse n) f d e = absurd (let z : _≡_ {A = ℕ} 0 1 = cc in omega arith)
-  lines (ok paths) f d e =
-      let z : _≡_ {A = Drawing} (paths, 0) d = cc in
-      let m = few-lines 256 R (points-of path) paths f in
-      let D = demand-3 (no-room 256) 0 R path (call-bounded 256 (omega arith)) (T-of frame) (T-of points) in
-      subst Bounded z (bounded (paths, 0) (D .open-sourced paths f) (m .0, omega (arith, m .1)))
+  few-open : (d : Drawing) → drawing-of false (no-room 256) 256 R (points-of path) ≡ ok d → Few d
+  few-open d e =
+      let m = few-lines 256 R (points-of path) (d .0) (lines-drawn (no-room 256) 256 R (points-of path) d e) in
+      (m .0, omega (arith, m .1))
 
   -- a closed path that is not walked is returned whole or gives nothing
   few-closed : length path / 2 ≤ 128 → (d : Drawing) → execute (no-room 256) 256 R (points-of path) ≡ ok d → Few d
@@ -107,14 +79,12 @@ module _ (R : Rect64) (path : List ℤ) (frame : rect-in-limit R ≡ true) (poin
           let m = few-results (no-room 256) 256 R (points-of path) (d .0) (d .1) e in
           (few-points 256 256 R path (d .0) (d .1) (omega arith) (T-of frame) (T-of points) (T-of w) e, omega (arith, m .0, m .1))
 
-  polygon : length path / 2 ≤ 128 → (d : Drawing) → execute (no-room 256) 256 R (points-of path) ≡ ok d → Bounded d
-  polygon short d e =
-      let D = demand-3 (no-room 256) 256 R path (call-bounded 256 (omega arith)) (T-of frame) (T-of points) in
-      bounded d (D .closed-sourced (d .0) (d .1) e) (few-closed short d e)
+  few : (closed : Bool) → length path / 2 ≤ 128 → (d : Drawing) → drawing-of closed (no-room 256) 256 R (points-of path) ≡ ok d → Few d
+  few true short d e = few-closed short d e
+  few false short d e = few-open d e
 
 pub always-bounded : AlwaysBounded
-always-bounded closed R path d e = let a = admitted closed R path d e in go closed (a .short) (a .frame) (a .points) (a .drawn)
-  where
-    go : (closed : Bool) → length path / 2 ≤ 128 → rect-in-limit R ≡ true → all-in-limit path ≡ true → drawing-of closed R path ≡ ok d → Bounded d
-    go true short frame points e = polygon R path frame points short d e
-    go false short frame points e = lines R path frame points (execute-lines (no-room 256) R (points-of path)) refl d e
+always-bounded closed R path d e =
+    let a = admitted closed R path d e in
+    let m = few R path (a .frame) (a .points) closed (a .short) d (a .drawn) in
+    record { points = m .0; paths = m .1; near = λ q i p j. near R (rect-limited R (T-of (a .frame))) p (always-exact closed R path d e .sourced .close-by q i p j) }

@@ -11,12 +11,14 @@ use lib.IntN.{ℤ, pos}
 use borrow.Author.Tests.{le-ltb, eqb-true, eq-eqb}
 use Rattle.plane.specs.declared.rect.Rect64.{Rect64}
 use Rattle.plane.specs.Basics.{if_then_else_, Try, refuse, ok}
-use Rattle.plane.specs.Points.{coordinates-of}
-use Rattle.reference.specs.Entry.{Drawing, Outcome, Lent, After, joined, delivered, answered, early-refusal, sheet-refusal, clip-open, clip-closed}
+use Rattle.plane.specs.Points.{points-of, coordinates-of}
+use Rattle.reference.specs.Walk.{no-room}
+use Rattle.reference.specs.Entry.{Drawing, Outcome, Lent, After, joined, delivered, answered, early-refusal, sheet-refusal, drawing-of}
 use Rattle.rectclip.specs.Promises.{lent}
+use Rattle.rectclip.proofs.Calling.{call-is}
 use Rattle.rectclip.proofs.Writing.{coordinates-length}
 use Rattle.handheld.specs.Called.{called}
-use Rattle.handheld.specs.Drawn.{drawing-of, clipped, handed, HandsOver}
+use Rattle.handheld.specs.Drawn.{clipped, handed, HandsOver}
 use Rattle.handheld.proofs.Bounded.{always-bounded}
 
 -- the answer and the two lists that a result fills
@@ -61,19 +63,14 @@ module _ (closed : Bool) (R : Rect64) (path C : List ℤ) (N : List ℕ) where
   abbrev lists : Lent
   lists = lent C N (replicate 512 (pos 0)) (replicate 8208 0)
 
-  call-is : called closed R path C N ≡ answered lists (early-refusal 256 (if closed then 256 else 0) 8208 R path) (drawing-of closed R path)
-  unfolding clip-open clip-closed
-  call-is = go closed
-    where
-      go : (closed : Bool) → called closed R path C N ≡ answered lists (early-refusal 256 (if closed then 256 else 0) 8208 R path) (drawing-of closed R path)
-      go true = refl
-      go false = refl
+  abbrev drawing : Try Drawing
+  drawing = drawing-of closed (no-room 256) 256 R (points-of path)
 
-  drawn : (d : Drawing) → early R path ≡ 0 → drawing-of closed R path ≡ ok d → clipped closed R path ≡ ok d
+  drawn : (d : Drawing) → early R path ≡ 0 → drawing ≡ ok d → clipped closed R path ≡ ok d
   unfolding clipped
   drawn d z e = rw (eq-eqb (early R path) 0 z) e
 
-  roomy : length C ≡ 512 → length N ≡ 257 → Roomy lists (early R path) (drawing-of closed R path)
+  roomy : length C ≡ 512 → length N ≡ 257 → Roomy lists (early R path) drawing
   roomy a b = record {
     points = λ d z e. omega (arith, always-bounded closed R path d (drawn d z e) .points, coordinates-length (joined (d .0)));
     paths = λ d z e. omega (arith, always-bounded closed R path d (drawn d z e) .paths, length-map (d .0) length);
@@ -82,8 +79,8 @@ module _ (closed : Bool) (R : Rect64) (path C : List ℤ) (N : List ℕ) where
   call-hands : length path / 2 ≤ 128 → length C ≡ 512 → length N ≡ 257 → left (called closed R path C N) ≡ handed C N (clipped closed R path)
   unfolding clipped
   call-hands short a b =
-      ap left call-is ∙ ap (λ (n : ℕ). left (answered lists n (drawing-of closed R path))) (early-same closed R path short)
-      ∙ answers lists (early R path) (drawing-of closed R path) (roomy a b)
+      ap left (call-is closed 256 R path lists) ∙ ap (λ (n : ℕ). left (answered lists n drawing)) (early-same closed R path short)
+      ∙ answers lists (early R path) drawing (roomy a b)
 
 pub hands-over : HandsOver
 hands-over closed R path C N r C′ N′ short a b k = (λ i. (k .answer i, k .coords i, k .counts i)) ∙ call-hands closed R path C N short a b

@@ -1,4 +1,5 @@
 -- Laws that the function's proof cites.
 pub mod Calls
+pub mod Exact
 pub mod Bounded
 pub mod HandsOver

@@ -4,12 +4,9 @@ use mathlib.Core.List.{List}
 use Prim.Native.Nat.{ℕ}
 use lib.IntN.{ℤ, pos}
 use lib.ListN.{replicate}
-use Rattle.plane.specs.Basics.{if_then_else_}
 use Rattle.plane.specs.declared.rect.Rect64.{Rect64}
-use Rattle.reference.specs.Entry.{After, clip-closed, clip-open}
+use Rattle.reference.specs.Entry.{After, clip-path}
 use Rattle.rectclip.specs.Promises.{lent}
 
 abbrev pub called : Bool → Rect64 → List ℤ → List ℤ → List ℕ → After
-called closed rect path coordinates lengths =
-    let lists = lent coordinates lengths (replicate 512 (pos 0)) (replicate 8208 0) in
-    if closed then clip-closed 256 rect path lists else clip-open rect path lists
+called closed rect path coordinates lengths = clip-path closed 256 rect path (lent coordinates lengths (replicate 512 (pos 0)) (replicate 8208 0))

@@ -1,25 +1,26 @@
 -- What the exported functions hand over, from what the clippers promise. Assumes nothing.
-use mathlib.Core.Path.{_≡_, refl, sym, _∙_, ap}
+use mathlib.Core.Path.{_≡_, refl, sym, _∙_, ap, subst}
 use mathlib.Core.Bool.{Bool, true, false, _||_}
 use mathlib.Core.List.{List, [], _∷_, _++_, map}
 use Prim.Native.Nat.{ℕ, suc, _<_, _≤_}
 use native.Mathlib.Omega.{arith}
-use lib.ListN.{length, set}
+use lib.ListN.{length, getD, set}
 use lib.IntN.{ℤ}
 use lib.Dec.{eqb, ltb}
-use borrow.Author.Tests.{le-ltb, lt-ltb, ltb-false}
+use borrow.Author.Tests.{le-ltb, lt-ltb, ltb-false, eqb-false}
 use Rattle.plane.specs.declared.rect.Rect64.{Rect64}
 use Rattle.plane.specs.Basics.{Try, refuse, ok}
 use Rattle.plane.specs.Points.{coordinates-of}
-use Rattle.reference.specs.Entry.{is-present, filled, Outcome, refused, drawn, Lent, After, Drawing, joined, delivered, answered, clip-open, clip-closed}
+use Rattle.reference.specs.Entry.{is-present, filled, Outcome, refused, drawn, Lent, After, Drawing, joined, delivered, answered, clip-open, clip-closed, clip-path}
 use Rattle.entry.specs.declared.answer.Presence.{Presence}
 use Rattle.entry.specs.declared.answer.Refusal.{Refusal}
 use Rattle.entry.specs.declared.answer.Refusal.the-variants.{OddCoordinates, StoreTooLong, AllowanceTooLarge, WorkTooShort, PathTooLong, RectangleOutside, PathOutside, StoreFull, CrossingLost, TurnsSpent, ListsTooShort, UnreadableLine}
 use Rattle.entry.specs.declared.answer.Answer.{Answer}
+use Rattle.entry.specs.declared.answer.Answer.the-variants.{Drawn, Refused}
 use Rattle.entry.specs.Answers.{presence, number, outcome}
-use Rattle.rectclip.specs.Promises.{lent, Clips, ClipsOpen}
-use Rattle.rectclip.specs.ClosedPromises.{ClipsClosed}
-use Rattle.harness.specs.Values.{presence-value, Exported, counted-by, counted, clip-kind, uncounted-value, Counted, Hands}
+use Rattle.entry.proofs.Sheets.{number-not-zero}
+use Rattle.rectclip.specs.Promises.{lent, Clips, Returned, ReturnedBy}
+use Rattle.harness.specs.Values.{presence-value, Exported, counted-by, counted, uncounted-value, Counted, Hands, ReturnedAt}
 use Rattle.theorems.proofs.Tests.{neither}
 
 -- the value of `present`, where its answer is q
@@ -114,15 +115,15 @@ module _ (l : Lent) (counts : List ℕ) (h : ltb (length counts) 3 ≡ true) whe
       go false e drawing = rw e (record { value = refl; coordinates = refl; lengths = refl; store = refl; work = refl; numbers = refl; no-coordinates = refl; no-lengths = refl })
 
   -- the clipper of either kind
-  uncounted-clip : (closed : Bool) (A : ℕ) (R : Rect64) (path : List ℤ) → Uncounted (counted l counts (clip-kind closed A R path l)) l counts (clip-kind closed A R path (bare l))
+  uncounted-clip : (closed : Bool) (A : ℕ) (R : Rect64) (path : List ℤ) → Uncounted (counted l counts (clip-path closed A R path l)) l counts (clip-path closed A R path (bare l))
   unfolding clip-closed clip-open
   uncounted-clip true A R path = uncounted-is _ _
   uncounted-clip false A R path = uncounted-is _ _
 
 -- what a clipper that was lent no room for a result leaves, handed over
 pub hands-uncounted : (closed : Bool) (A : ℕ) (R : Rect64) (path : List ℤ) (l : Lent) (counts : List ℕ) → length counts < 3 → {after : Lent} {r : Answer} {v : ℕ}
-    → Clips (clip-kind closed A R path (bare l)) r after → v ≡ uncounted-value (outcome r)
-    → Hands (counted l counts (clip-kind closed A R path l)) v (lent (after .coordinates ++ l .coordinates) (after .lengths ++ l .lengths) (after .store) (after .work)) counts
+    → Clips (clip-path closed A R path (bare l)) r after → v ≡ uncounted-value (outcome r)
+    → Hands (counted l counts (clip-path closed A R path l)) v (lent (after .coordinates ++ l .coordinates) (after .lengths ++ l .lengths) (after .store) (after .work)) counts
 hands-uncounted closed A R path l counts h k n =
     let u = uncounted-clip l counts (lt-ltb _ _ h) closed A R path in
     record {
@@ -134,10 +135,18 @@ hands-uncounted closed A R path l counts h k n =
       counts = sym (u .numbers);
     }
 
--- ---- what the two clippers promise
-module _ {closed : Bool} (A : ℕ) {R : Rect64} {path : List ℤ} {l : Lent} {r : Answer} {after : Lent} where
-  pub clips-closed : closed ≡ true → ClipsClosed A R path l r after → Clips (clip-kind closed A R path l) r after
-  clips-closed e k = rw e (k .clips)
+-- ---- the paths that were returned
+-- a refusal has no value 0
+refused-value : (why : Refusal) {v : ℕ} → v ≡ number why → v ≡ 0 → ⊥
+refused-value why e z = eqb-false (number why) 0 (number-not-zero why) (sym e ∙ z)
 
-  pub clips-open : closed ≡ false → ClipsOpen R path l r after → Clips (clip-kind closed A R path l) r after
-  clips-open e k = rw e (k .clips)
+module _ (closed : Bool) (R : Rect64) (path coordinates : List ℤ) (lengths : List ℕ) where
+  -- with room for the counts
+  pub returned-counted : (counts : List ℕ) (r : Answer) {v : ℕ} {counts′ : List ℕ} → ReturnedBy closed R path r coordinates lengths → Counted (outcome r) counts v counts′ → ReturnedAt closed R path v coordinates lengths counts′
+  returned-counted counts (Drawn c) h k z = subst (λ (l : List ℕ). Returned closed R path (getD l 0 0) (getD l 1 0) coordinates lengths) (sym (k .list)) (h c refl)
+  returned-counted counts (Refused why) h k z = absurd (refused-value why (k .value) z)
+
+  -- without: no result
+  pub returned-uncounted : (counts : List ℕ) (r : Answer) {v : ℕ} → v ≡ uncounted-value (outcome r) → ReturnedAt closed R path v coordinates lengths counts
+  returned-uncounted counts (Drawn c) e z = absurd (omega arith)
+  returned-uncounted counts (Refused why) e z = absurd (refused-value why e z)

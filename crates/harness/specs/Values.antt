@@ -3,12 +3,13 @@ use mathlib.Core.Path.{_≡_}
 use mathlib.Core.List.{List, [], _∷_}
 use mathlib.Core.Bool.{Bool}
 use Prim.Native.Nat.{ℕ, _+_}
-use lib.ListN.{length}
+use lib.ListN.{length, getD}
 use lib.Dec.{ltb}
 use lib.IntN.{ℤ}
 use Rattle.plane.specs.declared.rect.Rect64.{Rect64}
 use Rattle.plane.specs.Basics.{if_then_else_}
-use Rattle.reference.specs.Entry.{Outcome, refused, drawn, Lent, After, filled, cleared, clip-open, clip-closed, Presence, unknown, yes, no}
+use Rattle.reference.specs.Entry.{Outcome, refused, drawn, Lent, After, filled, cleared, Presence, unknown, yes, no}
+use Rattle.rectclip.specs.Promises.{Returned}
 
 abbrev pub presence-value : Presence → ℕ
 presence-value (unknown n) = 100 + n
@@ -40,11 +41,11 @@ pub record Hands (e : Exported) (r : ℕ) (after : Lent) (numbers : List ℕ) : 
   pub work : after .work ≡ e .lists .work
   pub counts : numbers ≡ e .counts
 
--- ---- words of the private functions
--- the clipper of the path's kind
-abbrev pub clip-kind : Bool → ℕ → Rect64 → List ℤ → Lent → After
-clip-kind closed A rect path l = if closed then clip-closed A rect path l else clip-open rect path l
+-- value 0: the leading entries hold as many paths with as many points as the first two counts say, and they have demand 3
+abbrev pub ReturnedAt : Bool → Rect64 → List ℤ → ℕ → List ℤ → List ℕ → List ℕ → Type 0
+ReturnedAt closed rect path r coordinates lengths counts = r ≡ 0 → Returned closed rect path (getD counts 0 0) (getD counts 1 0) coordinates lengths
 
+-- ---- words of the private functions
 abbrev pub uncounted-value : Outcome → ℕ
 uncounted-value (refused n) = n
 uncounted-value (drawn paths points turns) = 11

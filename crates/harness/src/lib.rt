@@ -1,12 +1,13 @@
 // The clippers as a static library over plain numbers and lists of any length: for measuring and comparing only.
 ghost use mathlib.Core.Path.{_≡_};
+ghost use mathlib.Core.Bool.{true, false};
 ghost use Rattle.plane.specs.Rectangle.{rect};
-ghost use Rattle.reference.specs.Entry.{clip-open, clip-closed, is-present};
-ghost use Rattle.rectclip.specs.Promises.{lent, Clips};
+ghost use Rattle.reference.specs.Entry.{clip-path, is-present};
+ghost use Rattle.rectclip.specs.Promises.{lent, ClipsPath};
 ghost use Prim.Native.Nat.{_≤_};
 ghost use lib.ListN.{length};
 ghost use Rattle.entry.specs.Answers.{outcome};
-ghost use Rattle.harness.specs.Values.{presence-value, clip-kind, uncounted-value, counted, Counted, Hands};
+ghost use Rattle.harness.specs.Values.{presence-value, uncounted-value, counted, Counted, Hands, ReturnedAt};
 use entry::answer::Answer;
 use entry::answer::Presence;
 use entry::present::present;
@@ -40,7 +41,8 @@ pub extern "C" fn harness_rect_clip_lines64(
     lengths: &mut [u32],
     counts: &mut [u32],
 ) -> u32
-    ensures { λ r. ⌜ Hands (counted (lent (now (coordinates .entry)) (now (lengths .entry)) (now (store .entry)) (now (work .entry))) (now (counts .entry)) (clip-open (rect left top right bottom) (now (path .entry)) (lent (now (coordinates .entry)) (now (lengths .entry)) (now (store .entry)) (now (work .entry))))) r (lent (now (coordinates .exit)) (now (lengths .exit)) (now (store .exit)) (now (work .exit))) (now (counts .exit)) ⌝ }
+    ensures hands { λ r. ⌜ Hands (counted (lent (now (coordinates .entry)) (now (lengths .entry)) (now (store .entry)) (now (work .entry))) (now (counts .entry)) (clip-path false 0 (rect left top right bottom) (now (path .entry)) (lent (now (coordinates .entry)) (now (lengths .entry)) (now (store .entry)) (now (work .entry))))) r (lent (now (coordinates .exit)) (now (lengths .exit)) (now (store .exit)) (now (work .exit))) (now (counts .exit)) ⌝ }
+    ensures returned { λ r. ⌜ ReturnedAt false (rect left top right bottom) (now (path .entry)) r (now (coordinates .exit)) (now (lengths .exit)) (now (counts .exit)) ⌝ }
 {
     let rect = Rect64::new(left, top, right, bottom);
     clip_counted(
@@ -71,7 +73,8 @@ pub extern "C" fn harness_rect_clip64(
     lengths: &mut [u32],
     counts: &mut [u32],
 ) -> u32
-    ensures { λ r. ⌜ Hands (counted (lent (now (coordinates .entry)) (now (lengths .entry)) (now (store .entry)) (now (work .entry))) (now (counts .entry)) (clip-closed allowance (rect left top right bottom) (now (path .entry)) (lent (now (coordinates .entry)) (now (lengths .entry)) (now (store .entry)) (now (work .entry))))) r (lent (now (coordinates .exit)) (now (lengths .exit)) (now (store .exit)) (now (work .exit))) (now (counts .exit)) ⌝ }
+    ensures hands { λ r. ⌜ Hands (counted (lent (now (coordinates .entry)) (now (lengths .entry)) (now (store .entry)) (now (work .entry))) (now (counts .entry)) (clip-path true allowance (rect left top right bottom) (now (path .entry)) (lent (now (coordinates .entry)) (now (lengths .entry)) (now (store .entry)) (now (work .entry))))) r (lent (now (coordinates .exit)) (now (lengths .exit)) (now (store .exit)) (now (work .exit))) (now (counts .exit)) ⌝ }
+    ensures returned { λ r. ⌜ ReturnedAt true (rect left top right bottom) (now (path .entry)) r (now (coordinates .exit)) (now (lengths .exit)) (now (counts .exit)) ⌝ }
 {
     let rect = Rect64::new(left, top, right, bottom);
     clip_counted(
@@ -98,7 +101,7 @@ fn clip(
     coordinates: &mut [i64],
     lengths: &mut [u32],
 ) -> Answer
-    ensures { λ r. ⌜ Clips (clip-kind closed allowance rect (now (path .entry)) (lent (now (coordinates .entry)) (now (lengths .entry)) (now (store .entry)) (now (work .entry)))) r (lent (now (coordinates .exit)) (now (lengths .exit)) (now (store .exit)) (now (work .exit))) ⌝ }
+    ensures { λ r. ⌜ ClipsPath closed allowance rect (now (path .entry)) (lent (now (coordinates .entry)) (now (lengths .entry)) (now (store .entry)) (now (work .entry))) r (lent (now (coordinates .exit)) (now (lengths .exit)) (now (store .exit)) (now (work .exit))) ⌝ }
 {
     if closed {
         let clipper = RectClip64::new(rect);
@@ -121,7 +124,8 @@ fn clip_counted(
     lengths: &mut [u32],
     counts: &mut [u32],
 ) -> u32
-    ensures { λ r. ⌜ Hands (counted (lent (now (coordinates .entry)) (now (lengths .entry)) (now (store .entry)) (now (work .entry))) (now (counts .entry)) (clip-kind closed allowance rect (now (path .entry)) (lent (now (coordinates .entry)) (now (lengths .entry)) (now (store .entry)) (now (work .entry))))) r (lent (now (coordinates .exit)) (now (lengths .exit)) (now (store .exit)) (now (work .exit))) (now (counts .exit)) ⌝ }
+    ensures hands { λ r. ⌜ Hands (counted (lent (now (coordinates .entry)) (now (lengths .entry)) (now (store .entry)) (now (work .entry))) (now (counts .entry)) (clip-path closed allowance rect (now (path .entry)) (lent (now (coordinates .entry)) (now (lengths .entry)) (now (store .entry)) (now (work .entry))))) r (lent (now (coordinates .exit)) (now (lengths .exit)) (now (store .exit)) (now (work .exit))) (now (counts .exit)) ⌝ }
+    ensures returned { λ r. ⌜ ReturnedAt closed rect (now (path .entry)) r (now (coordinates .exit)) (now (lengths .exit)) (now (counts .exit)) ⌝ }
 {
     if counts.len() < 3 {
         let answer = clip(

@@ -11,7 +11,7 @@ use Rattle.plane.specs.declared.rect.Rect64.{Rect64}
 use Rattle.plane.specs.Points.{point}
 use Rattle.plane.specs.Rectangle.{rect}
 use Rattle.plane.specs.Signs.{cross-product-sign}
-use Rattle.plane.specs.Segment.{determinant, numerator, fraction, workingOf, crossingOf, pointAt}
+use Rattle.plane.specs.Segment.{determinant, numerator, fraction, workingOf, crossingOf, pointAt, intersection}
 use Rattle.plane.specs.Intersection.{at-end, get-segment-intersection, edge-intersection, side-intersection, get-intersection}
 
 abbrev square : Rect64
@@ -26,7 +26,7 @@ found =
     []
 
 searches : found ≡ Found (point (pos 0) (pos 10)) Left ∷ Found (point (pos 0) (pos 0)) Top ∷ []
-unfolding found cross-product-sign determinant numerator fraction workingOf crossingOf pointAt at-end get-segment-intersection edge-intersection side-intersection get-intersection ofInt lib.Ieee.add sub mul div neg toSigned eq le
+unfolding found cross-product-sign determinant numerator fraction workingOf crossingOf pointAt intersection at-end get-segment-intersection edge-intersection side-intersection get-intersection ofInt lib.Ieee.add sub mul div neg toSigned eq le
 searches = refl
 
 -- 10: along the top edge

@@ -8,10 +8,10 @@ use Rattle.plane.specs.Basics.{if_then_else_}
 use Rattle.plane.specs.Locations.{lower, upper}
 use Rattle.plane.specs.Points.{same-point, pt-at}
 use Rattle.plane.specs.Rectangle.{as-path, beyond}
-use Rattle.plane.specs.Segment.{workingOf, crossingOf, settledOf}
+use Rattle.plane.specs.Segment.{intersection}
 use Rattle.plane.specs.Signs.{cross-product-sign, is-horizontal}
-use Rattle.plane.specs.declared.crossing.Crossing.{Crossing}
-use Rattle.plane.specs.declared.crossing.Crossing.the-variants.{Nothing, At, Along}
+use Rattle.plane.specs.declared.crossing.Meeting.{Meeting}
+use Rattle.plane.specs.declared.crossing.Meeting.the-variants.{Apart, Met}
 use Rattle.plane.specs.declared.crossing.Search.{Search}
 use Rattle.plane.specs.declared.crossing.Search.the-variants.{Missed, Found}
 use Rattle.plane.specs.declared.location.Location.{Location}
@@ -19,15 +19,15 @@ use Rattle.plane.specs.declared.location.Location.the-variants.{Left, To
 use Rattle.plane.specs.declared.point.Point64.{Point64}
 use Rattle.plane.specs.declared.rect.Rect64.{Rect64}
 
--- `get_segment_intersection` of the segment from p1 to p2 with the edge from p3 to p4: none, at a known point, or at a fraction of the segment
+-- `get_segment_intersection` of the segment from p1 to p2 with the edge from p3 to p4
 -- p, which is on the line through a and b, is a crossing where it lies between them
-unfoldable pub at-end : Point64 → Point64 → Point64 → Crossing
+unfoldable pub at-end : Point64 → Point64 → Point64 → Meeting
 at-end p a b =
-    if same-point p a || same-point p b then At p
-    else if is-horizontal a b then (if Bool·beq (ltZ (a .x) (p .x)) (ltZ (p .x) (b .x)) then At p else Nothing)
-    else (if Bool·beq (ltZ (a .y) (p .y)) (ltZ (p .y) (b .y)) then At p else Nothing)
+    if same-point p a || same-point p b then Met p
+    else if is-horizontal a b then (if Bool·beq (ltZ (a .x) (p .x)) (ltZ (p .x) (b .x)) then Met p else Apart)
+    else (if Bool·beq (ltZ (a .y) (p .y)) (ltZ (p .y) (b .y)) then Met p else Apart)
 
-unfoldable pub get-segment-intersection : Point64 → Point64 → Point64 → Point64 → Crossing
+unfoldable pub get-segment-intersection : Point64 → Point64 → Point64 → Point64 → Meeting
 get-segment-intersection p1 p2 p3 p4 =
     let res1 = cross-product-sign p1 p3 p4 in
     let res2 = cross-product-sign p2 p3 p4 in
@@ -37,13 +37,13 @@ get-segment-intersection p1 p2 p3 p4 =
     let known2 = at-end p2 p3 p4 in
     let known3 = at-end p3 p1 p2 in
     let known4 = at-end p4 p1 p2 in
-    let found = crossingOf (workingOf p1 p2 p3 p4) p1 p2 in
-    if eqZ res1 (pos 0) then (if eqZ res2 (pos 0) then Nothing else known1)
+    let found = intersection p1 p2 p3 p4 in
+    if eqZ res1 (pos 0) then (if eqZ res2 (pos 0) then Apart else known1)
     else if eqZ res2 (pos 0) then known2
-    else if Bool·beq (ltZ (pos 0) res1) (ltZ (pos 0) res2) then Nothing
+    else if Bool·beq (ltZ (pos 0) res1) (ltZ (pos 0) res2) then Apart
     else if eqZ res3 (pos 0) then known3
     else if eqZ res4 (pos 0) then known4
-    else if Bool·beq (ltZ (pos 0) res3) (ltZ (pos 0) res4) then Nothing
+    else if Bool·beq (ltZ (pos 0) res3) (ltZ (pos 0) res4) then Apart
     else found
 
 -- a side's edge runs from corner `edge-from` to corner `edge-to` of `as-path`
@@ -62,17 +62,16 @@ edge-to Bottom = 3
 edge-to Inside = 0
 
 -- `get_intersection` of the segment from p to p2 with the boundary
-abbrev pub met : Location → Crossing → Search
-met s Nothing = Missed
-met s (At q) = Found q s
-met s (Along t) = Missed
+abbrev pub met : Location → Meeting → Search
+met s Apart = Missed
+met s (Met q) = Found q s
 
--- with the edge of side s; a crossing at a fraction is cut to whole numbers
+-- with the edge of side s
 unfoldable pub edge-intersection : Rect64 → Location → Point64 → Point64 → Search
 edge-intersection r s p p2 =
     let a = pt-at (as-path r) (edge-from s) in
     let b = pt-at (as-path r) (edge-to s) in
-    met s (settledOf (get-segment-intersection p p2 a b) (workingOf p p2 a b))
+    met s (get-segment-intersection p p2 a b)
 
 infixr 4 _or-else_
 abbrev pub _or-else_ : Search → Search → Search

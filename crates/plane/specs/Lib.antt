@@ -5,6 +5,7 @@ pub mod Limit
 pub mod Locations
 pub mod Rectangle
 pub mod Signs
+pub mod CrossProduct
 pub mod Polygon
 pub mod Segment
 pub mod Intersection

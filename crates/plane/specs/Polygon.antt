@@ -8,7 +8,6 @@ use lib.ListN.{length}
 use lib.Signed.{ltZ, leZ}
 use Rattle.integers.specs.Tests.{eqZ}
 use Rattle.plane.specs.Basics.{if_then_else_}
-use Rattle.plane.specs.Intersection.{at-end}
 use Rattle.plane.specs.Points.{pt-at}
 use Rattle.plane.specs.Signs.{cross-product-sign}
 use Rattle.plane.specs.declared.location.PointInPolygonResult.{PointInPolygonResult}
@@ -99,13 +98,19 @@ module _ (pt : Point64) (polygon : List Point64) where
   scan-loop first-idx (suc left) starting-above s =
       elim (scan-pass first-idx s) [ on-edge ↦ IsOn | stop t ↦ scan-answer starting-above t | again t ↦ scan-loop first-idx left starting-above t ]
 
+  -- the variables as the `loop` begins, behind the first vertex off the point's row
+  abbrev pub scan-start : ℕ → Scan
+  scan-start first-idx = record { curr-idx = (first-idx + 1) % len; is-above = ltZ (pt-at polygon first-idx .y) (pt .y); wrap-to-start = false; val = 0 }
+
   -- The passes of the `loop`: each but two moves on by a vertex or ends, and it goes round at most twice.
+  abbrev pub scan-passes : ℕ
+  scan-passes = 2 * len + 2
+
   unfoldable pub point-in-polygon : PointInPolygonResult
   point-in-polygon =
       let first-idx = first-off len 0 in
-      let is-above = ltZ (pt-at polygon first-idx .y) (pt .y) in
-      let start : Scan = record { curr-idx = (first-idx + 1) % len; is-above = is-above; wrap-to-start = false; val = 0 } in
-      let answer = scan-loop first-idx (2 * len + 2) is-above start in
+      let start = scan-start first-idx in
+      let answer = scan-loop first-idx scan-passes (start .is-above) start in
       if ltb len 3 then IsOutside
       else if eqb first-idx len then IsOutside
       else answer

@@ -6,6 +6,8 @@ use Rattle.rounding.specs.Coordinate.{float, difference, zeroF, oneF}
 use Rattle.plane.specs.declared.crossing.Crossing.{Crossing}
 use Rattle.plane.specs.declared.crossing.Crossing.the-variants.{Nothing, At, Along}
 use Rattle.plane.specs.declared.crossing.Working.{Working}
+use Rattle.plane.specs.declared.crossing.Meeting.{Meeting}
+use Rattle.plane.specs.declared.crossing.Meeting.the-variants.{Apart, Met}
 use Rattle.plane.specs.declared.point.Point64.{Point64}
 
 -- the segment is from a to b, and the edge from c to d
@@ -40,12 +42,12 @@ pointAt w t = record {
   y = toSigned 63 (add binary64 (w .y) (mul binary64 t (w .dy)));
 }
 
-abbrev pub settledOf : Crossing → Working → Crossing
-settledOf Nothing w = Nothing
-settledOf (At p) w = At p
-settledOf (Along t) w = At (pointAt w t)
+abbrev pub settledOf : Crossing → Working → Meeting
+settledOf Nothing w = Apart
+settledOf (At p) w = Met p
+settledOf (Along t) w = Met (pointAt w t)
 
 -- `get_segment_intersect_pt` whole
-unfoldable pub intersection : Point64 → Point64 → Point64 → Point64 → Crossing
+unfoldable pub intersection : Point64 → Point64 → Point64 → Point64 → Meeting
 unfolding workingOf crossingOf pointAt
 intersection a b c d = let w = workingOf a b c d in settledOf (crossingOf w a b) w

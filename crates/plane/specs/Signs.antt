@@ -1,15 +1,17 @@
--- Signs of cross products and directions along an edge. Only signs are used, and within the coordinate limit they are exact in i64.
+-- Signs of cross products and directions along an edge. Only signs are used.
 use mathlib.Core.Bool.{Bool, _&&_}
+use lib.Ieee.{Float, binary64, sub, mul, lt}
 use lib.IntN.{ℤ, pos, negsuc, _-ℤ_, _*ℤ_}
 use lib.Signed.{ltZ}
 use Rattle.integers.specs.Tests.{eqZ}
+use Rattle.rounding.specs.Coordinate.{difference, zeroF}
 use Rattle.plane.specs.Basics.{if_then_else_}
 use Rattle.plane.specs.Locations.{heading-clockwise, are-opposites}
 use Rattle.plane.specs.declared.location.Location.{Location}
 use Rattle.plane.specs.declared.location.Location.the-variants.{Left, Top, Right, Bottom, Inside}
 use Rattle.plane.specs.declared.point.Point64.{Point64}
 
--- `cross_product_sign`, `is_collinear`, and `cross_product_three_points < 0.0`, which is exact within the coordinate limit
+-- `cross_product_sign` and `is_collinear` of core.rs; within the coordinate limit i64 holds the products
 unfoldable pub cross-product-sign : Point64 → Point64 → Point64 → ℤ
 cross-product-sign p1 p2 p3 =
     let ab = (p2 .x -ℤ p1 .x) *ℤ (p3 .y -ℤ p2 .y) in
@@ -19,12 +21,17 @@ cross-product-sign p1 p2 p3 =
 unfoldable pub is-collinear : Point64 → Point64 → Point64 → Bool
 is-collinear p1 shared p2 = eqZ ((shared .x -ℤ p1 .x) *ℤ (p2 .y -ℤ shared .y)) ((shared .y -ℤ p1 .y) *ℤ (p2 .x -ℤ shared .x))
 
+-- `cross_product_three_points` of core.rs: coordinates become binary64 first, then each operation rounds once
+unfoldable pub cross-product-three-points : Point64 → Point64 → Point64 → Float
+cross-product-three-points p1 p2 p3 = sub binary64 (mul binary64 (difference (p2 .x) (p1 .x)) (difference (p3 .y) (p2 .y))) (mul binary64 (difference (p2 .y) (p1 .y)) (difference (p3 .x) (p2 .x)))
+
 unfoldable pub cross-product-is-negative : Point64 → Point64 → Point64 → Bool
-cross-product-is-negative p1 p2 p3 = ltZ ((p2 .x -ℤ p1 .x) *ℤ (p3 .y -ℤ p2 .y) -ℤ (p2 .y -ℤ p1 .y) *ℤ (p3 .x -ℤ p2 .x)) (pos 0)
+cross-product-is-negative p1 p2 p3 = lt (cross-product-three-points p1 p2 p3) zeroF
 
 abbrev pub is-horizontal : Point64 → Point64 → Bool
 is-horizontal p q = eqZ (p .y) (q .y)
 
+-- `is_clockwise_dir` of rectclip.rs
 unfoldable pub is-clockwise-dir : Location → Location → Point64 → Point64 → Point64 → Bool
 is-clockwise-dir prev curr prev-pt curr-pt rect-mp =
     if are-opposites prev curr then cross-product-is-negative prev-pt rect-mp curr-pt else heading-clockwise prev curr

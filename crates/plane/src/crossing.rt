@@ -1,8 +1,8 @@
-// A crossing of a segment and an edge, the record of its binary64 numbers, and what a search over the edges finds.
+// A crossing of a segment and an edge, the record of its binary64 numbers, where the two meet, and what a search over the edges finds.
 use crate::location::Location;
 use crate::point::Point64;
 
-// No crossing, one at a known point, or one at a fraction of the segment.
+// A crossing before it is cut to whole numbers: none, one at a known point, or one at a fraction of the segment.
 pub enum Crossing {
     Nothing,
     At(Point64),
@@ -17,6 +17,12 @@ pub struct Working {
     pub dy: f64,
     pub det: f64,
     pub t: f64,
+}
+
+// What `get_segment_intersection` answers: the segment and the edge do not meet, or meet at a point of whole numbers.
+pub enum Meeting {
+    Apart,
+    Met(Point64),
 }
 
 // What `get_intersection` answers: nothing, or the crossing and its side.

@@ -18,6 +18,7 @@ use Rattle.entry.specs.declared.answer.Answer.{Answer}
 use Rattle.entry.specs.declared.answer.Answer.the-variants.{Drawn, Refused}
 use Rattle.entry.specs.declared.answer.Counts.{Counts}
 use Rattle.entry.specs.declared.answer.Refusal.{Refusal}
+use Rattle.entry.specs.declared.answer.Refusal.the-variants.{RectangleOutside, UnreadableLine}
 use Rattle.entry.specs.Answers.{outcome, number}
 use Rattle.entry.proofs.Admitting.{even-of}
 use Rattle.rectclip.specs.Promises.{Leaves}
@@ -26,14 +27,14 @@ use Rattle.handheld.specs.Drawn.{clipped, handed}
 use Rattle.handheld.proofs.HandsOver.{hands-over}
 use Rattle.text.specs.declared.reading.Request.the-variants.{Unreadable, Rectangle, Path}
 use Rattle.text.specs.Reading.{Request, unreadable, rectangle, path}
-use Rattle.text.specs.Asked.{answer as asking, stored, led-by}
+use Rattle.text.specs.Asked.{told, tells, stored, led-by}
 use Rattle.text.specs.Printing.{refusal-line, rectangle-line}
 use Rattle.text.specs.Written.{Written}
 use Rattle.text.proofs.Puts.{written-head}
 use Rattle.program.specs.declared.answers.Start.{Start}
 use Rattle.program.specs.declared.answers.Start.the-variants as begun
 use Rattle.program.specs.Printed.{Gives, Begins, Holds, Printable, Prints, numbers-answer}
-use Rattle.program.specs.Answered.{first-answer, start, First, path-answer, answer}
+use Rattle.program.specs.Answered.{first-answer, Started, start-refused, start-ready, started, start, First, path-answer, answer}
 use Rattle.program.proofs.Fits.{refusal-width, rectangle-width, drawing-fits}
 use Rattle.program.proofs.Lines.{gives-line, filled-within}
 
@@ -53,7 +54,7 @@ pub record PathAsked (asked : Request) (closed : Bool) (count : ℕ) : Type 0 wh
   pub is : asked ≡ path closed numbers
   pub many : length numbers ≡ count
 
-asked-path : (asked : Request) {closed : Bool} {count : ℕ} → Path closed count ≡ asking asked → PathAsked asked closed count
+asked-path : (asked : Request) {closed : Bool} {count : ℕ} → told (Path closed count) ≡ tells asked → PathAsked asked closed count
 asked-path unreadable e = absurd (let z : _≡_ {A = ℕ} 0 1 = cc in omega arith)
 asked-path (rectangle r) e = absurd (let z : _≡_ {A = ℕ} 0 1 = cc in omega arith)
 asked-path (path c zs) {closed} {count} e =
@@ -61,12 +62,12 @@ asked-path (path c zs) {closed} {count} e =
     let m : length zs ≡ count = cc in
     record { numbers = zs; is = ap (λ (b : Bool). path b zs) z; many = m }
 
-asked-rectangle : (asked : Request) {R : Rect64} → Rectangle R ≡ asking asked → asked ≡ rectangle R
+asked-rectangle : (asked : Request) {R : Rect64} → told (Rectangle R) ≡ tells asked → asked ≡ rectangle R
 asked-rectangle unreadable e = absurd (let z : _≡_ {A = ℕ} 0 1 = cc in omega arith)
 asked-rectangle (rectangle r) {R} e = let z : r ≡ R = cc in ap rectangle z
 asked-rectangle (path closed zs) e = absurd (let z : _≡_ {A = ℕ} 0 1 = cc in omega arith)
 
-asked-nothing : (asked : Request) → Unreadable ≡ asking asked → asked ≡ unreadable
+asked-nothing : (asked : Request) → told Unreadable ≡ tells asked → asked ≡ unreadable
 asked-nothing unreadable e = refl
 asked-nothing (rectangle r) e = absurd (let z : _≡_ {A = ℕ} 0 1 = cc in omega arith)
 asked-nothing (path closed zs) e = absurd (let z : _≡_ {A = ℕ} 0 1 = cc in omega arith)
@@ -76,23 +77,23 @@ module _ {out : List ℕ} {r : ℕ} {after : List ℕ} (room : length out ≡ 12
   gives-refusal : (n : ℕ) → Written (refusal-line (pos 1) n) out r after → Gives (refusal-line (pos 1) n) out r after
   gives-refusal n w = gives-line (omega (arith, room, refusal-width (pos 1) n)) w
 
-  pub first-unreadable : Written (refusal-line (pos 1) 12) out r after → First unreadable out (begun.Refused r) after
-  first-unreadable w = let g = gives-refusal 12 w in record { is = ap begun.Refused (g .count); list-after = g .list-after }
+  pub first-unreadable : Written (refusal-line (pos 1) 12) out r after → First unreadable out (begun.Refused UnreadableLine r) after
+  first-unreadable w = let g = gives-refusal 12 w in record { is = ap (start-refused 12) (g .count); list-after = g .list-after }
 
-  pub first-outside : (R : Rect64) → rect-in-limit R ≡ false → Written (refusal-line (pos 1) 6) out r after → First (rectangle R) out (begun.Refused r) after
-  first-outside R e w = let g = gives-refusal 6 w in record { is = rw e (ap begun.Refused (g .count)); list-after = rw e (g .list-after) }
+  pub first-outside : (R : Rect64) → rect-in-limit R ≡ false → Written (refusal-line (pos 1) 6) out r after → First (rectangle R) out (begun.Refused RectangleOutside r) after
+  first-outside R e w = let g = gives-refusal 6 w in record { is = rw e (ap (start-refused 6) (g .count)); list-after = rw e (g .list-after) }
 
   pub first-ready : (R : Rect64) → rect-in-limit R ≡ true → Written (rectangle-line R) out r after → First (rectangle R) out (begun.Ready R r) after
   first-ready R e w =
       let g = gives-line (omega (arith, room, rectangle-width R)) w in
-      record { is = rw e (ap (begun.Ready R) (g .count)); list-after = rw e (g .list-after) }
+      record { is = rw e (ap (start-ready R) (g .count)); list-after = rw e (g .list-after) }
 
 -- how many bytes are written
-abbrev pub bytes-of : Start → ℕ
-bytes-of (begun.Refused n) = n
-bytes-of (begun.Ready r n) = n
+abbrev pub bytes-of : Started → ℕ
+bytes-of (start-refused number n) = n
+bytes-of (start-ready r n) = n
 
-pub first-within : {asked : Request} {out : List ℕ} {r : Start} {after : List ℕ} → First asked out r after → bytes-of r ≤ length after
+pub first-within : {asked : Request} {out : List ℕ} {r : Start} {after : List ℕ} → First asked out r after → bytes-of (started r) ≤ length after
 first-within {asked} {out} {r} f = filled-within (first-answer asked) out (ap bytes-of (f .is) ∙ bytes asked (length (first-answer asked))) (f .list-after)
   where
     bytes : (asked : Request) (n : ℕ) → bytes-of (start asked n) ≡ n
@@ -100,19 +101,19 @@ first-within {asked} {out} {r} f = filled-within (first-answer asked) out (ap by
     bytes (path closed zs) n = refl
     bytes (rectangle r) n = go (rect-in-limit r)
       where
-        go : (b : Bool) → bytes-of (if b then begun.Ready r n else begun.Refused n) ≡ n
+        go : (b : Bool) → bytes-of (if b then start-ready r n else start-refused 6 n) ≡ n
         go true = refl
         go false = refl
 
 -- by what `read_line` answered
 module _ {asked : Request} {out : List ℕ} {r : Start} {after : List ℕ} where
-  pub first-by-rectangle : {R : Rect64} → Rectangle R ≡ asking asked → First (rectangle R) out r after → First asked out r after
+  pub first-by-rectangle : {R : Rect64} → told (Rectangle R) ≡ tells asked → First (rectangle R) out r after → First asked out r after
   first-by-rectangle {R} e f = subst (λ (a : Request). First a out r after) (sym (asked-rectangle asked e)) f
 
-  pub first-by-nothing : Unreadable ≡ asking asked → First unreadable out r after → First asked out r after
+  pub first-by-nothing : told Unreadable ≡ tells asked → First unreadable out r after → First asked out r after
   first-by-nothing e f = subst (λ (a : Request). First a out r after) (sym (asked-nothing asked e)) f
 
-  pub first-by-path : {closed : Bool} {count : ℕ} → Path closed count ≡ asking asked → First unreadable out r after → First asked out r after
+  pub first-by-path : {closed : Bool} {count : ℕ} → told (Path closed count) ≡ tells asked → First unreadable out r after → First asked out r after
   first-by-path {closed} {count} e f =
       let q = asked-path asked e in
       subst (λ (a : Request). First a out r after) (sym (q .is)) (record { is = f .is; list-after = f .list-after })
@@ -213,13 +214,13 @@ numbers-read R line closed zs list h = go (ltb 256 (length zs)) refl
 
 -- by what `read_line` answered
 module _ (R : Rect64) (line : ℤ) (asked : Request) {out : List ℕ} {n : ℕ} {after : List ℕ} where
-  pub answer-nothing : Unreadable ≡ asking asked → Gives (refusal-line line 12) out n after → Gives (answer R line asked) out n after
+  pub answer-nothing : told Unreadable ≡ tells asked → Gives (refusal-line line 12) out n after → Gives (answer R line asked) out n after
   answer-nothing e g = gives-as (ap (answer R line) (asked-nothing asked e)) g
 
-  pub answer-rectangle : {r : Rect64} → Rectangle r ≡ asking asked → Gives (refusal-line line 12) out n after → Gives (answer R line asked) out n after
+  pub answer-rectangle : {r : Rect64} → told (Rectangle r) ≡ tells asked → Gives (refusal-line line 12) out n after → Gives (answer R line asked) out n after
   answer-rectangle e g = gives-as (ap (answer R line) (asked-rectangle asked e)) g
 
-  pub answer-path : {closed : Bool} {count : ℕ} (list : List ℤ) {list′ : List ℤ} {x : ℤ} → Path closed count ≡ asking asked → 256 ≤ length list → list′ ≡ led-by (stored asked) list → x ≡ line
+  pub answer-path : {closed : Bool} {count : ℕ} (list : List ℤ) {list′ : List ℤ} {x : ℤ} → told (Path closed count) ≡ tells asked → 256 ≤ length list → list′ ≡ led-by (stored asked) list → x ≡ line
       → Gives (numbers-answer R x closed count (take count list′)) out n after → Gives (answer R line asked) out n after
   answer-path {closed} {count} list {list′} {x} e h f same g =
       let q = asked-path asked e in

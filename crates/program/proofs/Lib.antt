@@ -2,3 +2,7 @@
 pub mod Fits
 pub mod Lines
 pub mod Given
+pub mod Exact
+pub mod Feeds
+pub mod HeldBytes
+pub mod Taken

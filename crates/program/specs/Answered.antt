@@ -10,6 +10,7 @@ use Rattle.plane.specs.Basics.{if_then_else_, Try, refuse, ok}
 use Rattle.plane.specs.Limit.{rect-in-limit}
 use Rattle.plane.specs.declared.rect.Rect64.{Rect64}
 use Rattle.reference.specs.Entry.{Drawing, filled}
+use Rattle.entry.specs.Answers.{number}
 use Rattle.text.specs.Reading.{Request, unreadable, rectangle, path}
 use Rattle.text.specs.Printing.{rectangle-line, refusal-line, path-lines}
 use Rattle.handheld.specs.Drawn.{clipped}
@@ -22,14 +23,24 @@ first-answer unreadable = refusal-line (pos 1) 12
 first-answer (path closed zs) = refusal-line (pos 1) 12
 first-answer (rectangle r) = if rect-in-limit r then rectangle-line r else refusal-line (pos 1) 6
 
--- with how many bytes are printed
-abbrev pub start : Request → ℕ → Start
-start unreadable n = Refused n
-start (path closed zs) n = Refused n
-start (rectangle r) n = if rect-in-limit r then Ready r n else Refused n
+-- what it starts: nothing, by a refusal's number, or the answers under a rectangle; with how many bytes are printed
+pub data Started : Type 0 where
+  start-refused : (number bytes : ℕ) → Started
+  start-ready : Rect64 → (bytes : ℕ) → Started
+
+-- of each case of the enum
+abbrev pub started : Start → Started
+started (Refused why n) = start-refused (number why) n
+started (Ready r n) = start-ready r n
+
+-- of each request
+abbrev pub start : Request → ℕ → Started
+start unreadable n = start-refused 12 n
+start (path closed zs) n = start-refused 12 n
+start (rectangle r) n = if rect-in-limit r then start-ready r n else start-refused 6 n
 
 pub record First (asked : Request) (out : List ℕ) (r : Start) (after : List ℕ) : Type 0 where
-  pub is : r ≡ start asked (length (first-answer asked))
+  pub is : started r ≡ start asked (length (first-answer asked))
   pub list-after : after ≡ filled (first-answer asked) out
 
 -- ---- the other lines

@@ -4,6 +4,7 @@ ghost use Prim.Native.Nat.{_+_, _≤_};
 ghost use lib.ListN.{length, take};
 ghost use Rattle.program.specs.Printed.{Gives, Added, Printable, Prints, numbers-answer};
 ghost use Rattle.program.specs.Answered.{First, path-answer, answer};
+ghost use Rattle.program.specs.Exact.{ExactUnlessRefused, PrintsExact};
 ghost use Rattle.text.specs.Asked.{request};
 ghost use Rattle.text.specs.Reading.{unreadable, rectangle};
 ghost use Rattle.text.specs.Written.{Written, coordinates-line};
@@ -22,7 +23,7 @@ use text::writing::write_refusal;
 
 // What line 1 gives: a refusal, or the rectangle of the lines that follow; and how many bytes are written.
 pub enum Start {
-    Refused(usize),
+    Refused(Refusal, usize),
     Ready(Rect64, usize),
 }
 
@@ -37,7 +38,8 @@ fn write_why(line: i64, why: Refusal, out: &mut [u8]) -> usize
 fn unreadable_first(out: &mut [u8; 128]) -> Start
     ensures { λ r. ⌜ First unreadable (now (out .entry)) r (now (out .exit)) ⌝ }
 {
-    Start::Refused(write_why(1, Refusal::UnreadableLine, out))
+    let why = Refusal::UnreadableLine;
+    Start::Refused(why, write_why(1, why, out))
 }
 
 fn answer_rectangle(rect: Rect64, out: &mut [u8; 128]) -> Start
@@ -46,7 +48,8 @@ fn answer_rectangle(rect: Rect64, out: &mut [u8; 128]) -> Start
     if rect.in_limit() {
         return Start::Ready(rect, write_rectangle(rect, out));
     }
-    Start::Refused(write_why(1, Refusal::RectangleOutside, out))
+    let why = Refusal::RectangleOutside;
+    Start::Refused(why, write_why(1, why, out))
 }
 
 // Line 1.
@@ -98,7 +101,8 @@ fn write_paths(
 // A path of at most 128 points.
 fn answer_path(rect: Rect64, closed: bool, line: i64, path: &[i64], out: &mut [u8; 12288]) -> usize
     requires { ⌜ length (now path) ≤ 256 ⌝ }
-    ensures { λ r. ⌜ Gives (path-answer closed line (clipped closed rect (now (path .entry)))) (now (out .entry)) r (now (out .exit)) ⌝ }
+    ensures gives { λ r. ⌜ Gives (path-answer closed line (clipped closed rect (now (path .entry)))) (now (out .entry)) r (now (out .exit)) ⌝ }
+    ensures exact { λ r. ⌜ ExactUnlessRefused closed rect line (now (path .entry)) (take r (now (out .exit))) ⌝ }
 {
     let mut coordinates = [0i64; 512];
     let mut lengths = [0u32; 257];
@@ -126,7 +130,8 @@ fn answer_numbers(
     out: &mut [u8; 12288],
 ) -> usize
     requires { ⌜ 256 ≤ length (now numbers) ⌝ }
-    ensures { λ r. ⌜ Gives (numbers-answer rect line closed count (take count (now (numbers .entry)))) (now (out .entry)) r (now (out .exit)) ⌝ }
+    ensures gives { λ r. ⌜ Gives (numbers-answer rect line closed count (take count (now (numbers .entry)))) (now (out .entry)) r (now (out .exit)) ⌝ }
+    ensures exact { λ r. ⌜ ExactUnlessRefused closed rect line (take count (now (numbers .entry))) (take r (now (out .exit))) ⌝ }
 {
     if count % 2 == 1 {
         return write_why(line, Refusal::OddCoordinates, out);
@@ -137,9 +142,10 @@ fn answer_numbers(
     answer_path(rect, closed, line, &numbers[..count], out)
 }
 
-// A line behind line 1.
+// A line behind line 1. What it prints for a path is a refusal, or has demand 3.
 pub fn answer_line(rect: Rect64, line: i64, bytes: &[u8], out: &mut [u8; 12288]) -> usize
-    ensures { λ r. ⌜ Gives (answer rect line (request false (now (bytes .entry)))) (now (out .entry)) r (now (out .exit)) ⌝ }
+    ensures gives { λ r. ⌜ Gives (answer rect line (request false (now (bytes .entry)))) (now (out .entry)) r (now (out .exit)) ⌝ }
+    ensures exact { λ r. ⌜ PrintsExact rect line (request false (now (bytes .entry))) r (now (out .exit)) ⌝ }
 {
     let mut numbers = [0i64; 2048];
     let request = read_line(false, bytes, &mut numbers);

@@ -1,6 +1,8 @@
 // The input, a line at a time.
-ghost use Prim.Native.Nat.{_≤_};
+ghost use mathlib.Core.Path.{_≡_};
+ghost use Prim.Native.Nat.{_≤_, min};
 ghost use lib.ListN.{length};
+ghost use Rattle.program.specs.Taken.{TakesHeld, TakesLine, IsLine};
 use libc::STDIN_FILENO;
 
 // Where the next byte of the buffer stands, and how many bytes it holds.
@@ -9,62 +11,46 @@ pub struct Cursor {
     pub end: usize,
 }
 
-enum Next {
-    End,
-    Byte(u8, Cursor),
+// What was taken of a line: where the cursor stands behind it, how many of its bytes are at the front of the line's list, and whether its
+// line feed was taken.
+pub struct Held {
+    pub cursor: Cursor,
+    pub count: usize,
+    pub ended: bool,
 }
 
-// A line at the front of the line's list: how many of its bytes are there, and whether there was one at all.
+// A line at the front of the line's list: how many of its bytes are there, whether there was one at all, and whether a line feed ended it. One
+// that has begun and not ended is the input's last.
 pub struct Taken {
     pub cursor: Cursor,
     pub count: usize,
     pub begun: bool,
+    pub ended: bool,
 }
 
-// The next byte. A read that fails counts as the input's end.
-fn next_byte(buffer: &mut [u8; 65536], cursor: Cursor) -> Next {
-    let at = cursor.at;
-    let end = cursor.end;
-    if at < end {
-        if at < 65536 {
-            return Next::Byte(buffer[at], Cursor { at: at + 1, end });
-        }
-    }
-    let got = libc::read(STDIN_FILENO, buffer);
-    let n = io::count(got, buffer);
-    if n == 0 {
-        return Next::End;
-    }
-    Next::Byte(buffer[0], Cursor { at: 1, end: n })
-}
-
-// The next line, line feed left out. Of a line that is too long, as much is kept as `line` can hold.
-// What is read is open, so the promise says only that the line lies within its list; what the buffer holds afterwards is open too.
-// A proved loop has to end, and nothing says that a line does: the turns are counted down from a number that no run uses up.
-pub fn take_line(buffer: &mut [u8; 65536], start: Cursor, line: &mut [u8]) -> Taken
-    ensures { λ r. ⌜ r .count ≤ length (now (line .exit)) ⌝ }
+fn least(a: usize, b: usize) -> usize
+    ensures { λ r. ⌜ r ≡ min a b ⌝ }
 {
-    let mut cursor = start;
-    let mut count: usize = 0;
-    let mut begun = false;
-    let mut turns = u64::MAX;
-    while turns > 0 {
-        turns -= 1;
-        let next = next_byte(buffer, cursor);
-        let Next::Byte(b, after) = next else {
-            return Taken {
-                cursor,
-                count,
-                begun,
-            };
-        };
-        cursor = after;
-        begun = true;
+    if a < b { a } else { b }
+}
+
+// What the buffer holds of a line, whose first `from` bytes its list has: up to a line feed, which is taken and not stored, or to the end.
+// Of a line that is too long, as much is stored as the list has room for.
+pub fn take_held(buffer: &[u8], cursor: Cursor, line: &mut [u8], from: usize) -> Held
+    ensures { λ r. ⌜ TakesHeld (now (buffer .entry)) cursor (now (line .entry)) from r (now (line .exit)) ⌝ }
+{
+    let end = cursor.end;
+    let stop = least(end, buffer.len());
+    let mut at = cursor.at;
+    let mut count = from;
+    while at < stop {
+        let b = buffer[at];
+        at += 1;
         if b == 10 {
-            return Taken {
-                cursor,
+            return Held {
+                cursor: Cursor { at, end },
                 count,
-                begun,
+                ended: true,
             };
         }
         if count < line.len() {
@@ -72,9 +58,59 @@ pub fn take_line(buffer: &mut [u8; 65536], start: Cursor, line: &mut [u8]) -> Ta
             count += 1;
         }
     }
-    Taken {
-        cursor,
+    Held {
+        cursor: Cursor { at, end },
         count,
-        begun,
+        ended: false,
     }
+}
+
+// Reads what comes next to the buffer's front; answers how many bytes came. A read that fails counts as the input's end.
+fn read_more(buffer: &mut [u8; 65536]) -> usize
+    ensures { λ r. ⌜ r ≤ length (now (buffer .exit)) ⌝ }
+{
+    let got = libc::read(STDIN_FILENO, buffer);
+    io::count(got, buffer)
+}
+
+// The next line, line feed left out. Of a line that is too long, as much is kept as `line` can hold.
+// Which bytes a read brings is left open; the line, the cursor and the buffer are promised by the bytes at hand and those that came.
+// A proved loop has to end, and nothing says that a line does: the reads are counted down from a number that no run uses up.
+pub fn take_line(buffer: &mut [u8; 65536], start: Cursor, line: &mut [u8]) -> Taken
+    ensures taken { λ r. ⌜ TakesLine (now (buffer .entry)) start (now (line .entry)) r (now (buffer .exit)) (now (line .exit)) ⌝ }
+    ensures line { λ r. ⌜ IsLine (now (line .entry)) r (now (line .exit)) ⌝ }
+{
+    let first = take_held(buffer, start, line, 0);
+    let behind = first.cursor;
+    let mut taken = Taken {
+        cursor: behind,
+        count: first.count,
+        begun: start.at < behind.at,
+        ended: first.ended,
+    };
+    let mut reads = u64::MAX;
+    while reads > 0 {
+        if taken.ended {
+            return taken;
+        }
+        let n = read_more(buffer);
+        if n == 0 {
+            return Taken {
+                cursor: Cursor { at: 0, end: 0 },
+                count: taken.count,
+                begun: taken.begun,
+                ended: false,
+            };
+        }
+        let next = take_held(buffer, Cursor { at: 0, end: n }, line, taken.count);
+        let after = next.cursor;
+        taken = Taken {
+            cursor: after,
+            count: next.count,
+            begun: true,
+            ended: next.ended,
+        };
+        reads -= 1;
+    }
+    taken
 }

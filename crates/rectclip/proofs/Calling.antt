@@ -1,5 +1,6 @@
--- A call of either clipper, over its drawing: it is refused early, or the drawing is worked out and both working lists are cleared. Assumes nothing.
-use mathlib.Core.Path.{_≡_, refl, sym, _∙_, ap}
+-- A call of either clipper: it is refused early, or the drawing is worked out and both working lists are cleared; its paths have demand 3.
+-- Assumes nothing.
+use mathlib.Core.Path.{_≡_, refl, sym, _∙_, ap, subst}
 use mathlib.Core.Bool.{Bool, true, false, _||_}
 use mathlib.Core.List.{List, map}
 use Prim.Native.Nat.{ℕ, _*_, _/_, _≤_}
@@ -7,14 +8,17 @@ use native.Mathlib.Omega.{arith}
 use borrow.Author.Tests.{le-leb}
 use lib.Dec.{eqb, ltb}
 use lib.IntN.{ℤ, pos}
-use lib.ListN.{length, take, drop, replicate, length-map}
+use lib.ListN.{length, drop, replicate, length-map}
 use lib.Seq.{take-at}
-use Rattle.plane.specs.declared.point.Point64.{Point64}
+use Rattle.integers.specs.Tests.{T-of}
 use Rattle.plane.specs.declared.rect.Rect64.{Rect64}
-use Rattle.plane.specs.Basics.{Try, refuse, ok}
+use Rattle.plane.specs.Basics.{if_then_else_, Try, refuse, ok}
 use Rattle.plane.specs.Points.{points-of, coordinates-of}
 use Rattle.plane.specs.Rectangle.{get-bounds-path}
-use Rattle.reference.specs.Entry.{refused, drawn, Drawing, Lent, After, joined, filled, delivered, answered, early-refusal, filled-part}
+use Rattle.reference.specs.Walk.{no-room}
+use Rattle.reference.specs.Entry.{refused, drawn, Drawing, Lent, After, joined, filled, delivered, answered, early-refusal, drawing-of, clip-closed, clip-open, clip-path, filled-part}
+use Rattle.theorems.specs.Demand.{Exactness}
+use Rattle.theorems.proofs.ClosedArea.{call-bounded, demand-3}
 use Rattle.entry.specs.declared.admission.Admission.{Admission}
 use Rattle.entry.specs.declared.admission.Admission.the-variants.{Admitted, Refused}
 use Rattle.entry.specs.declared.answer.Answer.{Answer}
@@ -24,7 +28,8 @@ use Rattle.entry.specs.declared.answer.Refusal.{Refusal}
 use Rattle.entry.specs.Answers.{outcome, checked, admission}
 use Rattle.entry.proofs.Admitting.{Let, let-through, told-stopped, told-admitted}
 use Rattle.entry.proofs.Sheets.{number-not-zero}
-use Rattle.rectclip.specs.Promises.{lent, Clips, Leaves}
+use Rattle.rectclip.specs.Promises.{lent, Clips, Leaves, Returned, ClipsPath, Drawable}
+use Rattle.rectclip.specs.Delivering.{Clippable}
 use Rattle.rectclip.proofs.Writing.{coordinates-length, filled-length}
 
 -- ---- store and work are cleared
@@ -51,69 +56,122 @@ clears-work l (ok x) = go (too-short l x) refl
     go false t = rw t refl
 
 -- ---- the returned paths
--- these paths stand in the leading entries
-pub record Shown (c : Counts) (after : Lent) (paths : List (List Point64)) : Type 0 where
-  pub points : filled-part (after .coordinates) (c .points) ≡ coordinates-of (joined paths)
-  pub counts : take (c .paths) (after .lengths) ≡ map length paths
-
-module _ (l : Lent) (c : Counts) (after : Lent) where
-  pub shows : (d : Drawing) → outcome (answer.Drawn c) ≡ delivered l d .answer → after .coordinates ≡ delivered l d .lists .coordinates → after .lengths ≡ delivered l d .lists .lengths → Shown c after (d .0)
+module _ (closed : Bool) (rect : Rect64) (path : List ℤ) (l : Lent) (c : Counts) (coordinates : List ℤ) (lengths : List ℕ) where
+  -- a drawing that was handed out stands in the leading entries
+  shows : (d : Drawing) → Exactness closed rect (points-of path) (d .0) → Leaves (delivered l d) (answer.Drawn c) coordinates lengths → Returned closed rect path (c .paths) (c .points) coordinates lengths
   unfolding delivered filled-part
-  shows d o ec el = go (too-short l d) refl
+  shows d exact L = go (too-short l d) refl
     where
-      go : (b : Bool) → too-short l d ≡ b → Shown c after (d .0)
-      go true t = absurd (let z : outcome (answer.Drawn c) ≡ refused 11 = rw t at o in let y : _≡_ {A = ℕ} 0 1 = cc in omega arith)
+      go : (b : Bool) → too-short l d ≡ b → Returned closed rect path (c .paths) (c .points) coordinates lengths
+      go true t = absurd (let z : outcome (answer.Drawn c) ≡ refused 11 = rw t at (L .answer) in let y : _≡_ {A = ℕ} 0 1 = cc in omega arith)
       go false t =
           let paths = d .0 in
-          let z : drawn (c .paths) (c .points) (c .turns) ≡ drawn (length paths) (length (joined paths)) (d .1) = rw t at o in
+          let z : drawn (c .paths) (c .points) (c .turns) ≡ drawn (length paths) (length (joined paths)) (d .1) = rw t at (L .answer) in
           let n : c .paths ≡ length paths = cc in
           let m : c .points ≡ length (joined paths) = cc in
           let C = coordinates-of (joined paths) in
           let k : 2 * c .points ≡ length C = rw m (sym (coordinates-length (joined paths))) in
-          let f : after .coordinates ≡ filled C (l .coordinates) = rw t at ec in
-          let g : after .lengths ≡ filled (map length paths) (l .lengths) = rw t at el in
-          let long : 2 * c .points ≤ length (after .coordinates) = rw (f, filled-length C (l .coordinates), k) (omega arith) in
+          let f : coordinates ≡ filled C (l .coordinates) = rw t at (L .coords) in
+          let g : lengths ≡ filled (map length paths) (l .lengths) = rw t at (L .counts) in
+          let long : 2 * c .points ≤ length coordinates = rw (f, filled-length C (l .coordinates), k) (omega arith) in
           record {
-            points = rw (le-leb (2 * c .points) (length (after .coordinates)) long, f) (take-at C (drop (length C) (l .coordinates)) (2 * c .points) (sym k));
-            counts = rw g (take-at (map length paths) (drop (length (map length paths)) (l .lengths)) (c .paths) (length-map paths length ∙ sym n));
+            paths = paths;
+            path-count = n;
+            point-count = m;
+            point-entries = rw (le-leb (2 * c .points) (length coordinates) long, f) (take-at C (drop (length C) (l .coordinates)) (2 * c .points) (sym k));
+            length-entries = rw g (take-at (map length paths) (drop (length (map length paths)) (l .lengths)) (c .paths) (length-map paths length ∙ sym n));
+            exact = exact;
           }
 
-  -- a call that drew: its drawing, whose paths are shown
-  pub drew : (t : Try Drawing) {r : Answer} → r ≡ answer.Drawn c → Leaves (answered l 0 t) r (after .coordinates) (after .lengths) → (P : Type 0) → ((d : Drawing) → t ≡ ok d → Shown c after (d .0) → P) → P
+  -- a call that no early refusal stopped: the paths of its drawing, if it drew
+  pub returns : (t : Try Drawing) → ((d : Drawing) → t ≡ ok d → Exactness closed rect (points-of path) (d .0)) → {r : Answer} → Leaves (answered l 0 t) r coordinates lengths
+      → r ≡ answer.Drawn c → Returned closed rect path (c .paths) (c .points) coordinates lengths
   unfolding answered
-  drew (refuse n) er L P k = absurd (let z : outcome (answer.Drawn c) ≡ refused n = rw er at (L .answer) in let y : _≡_ {A = ℕ} 0 1 = cc in omega arith)
-  drew (ok d) er L P k = k d refl (shows d (rw er at (L .answer)) (L .coords) (L .counts))
+  returns (refuse n) exact L er = absurd (let z : outcome (answer.Drawn c) ≡ refused n = rw er at (L .answer) in let y : _≡_ {A = ℕ} 0 1 = cc in omega arith)
+  returns (ok d) exact L er = shows d (exact d refl) (rw er at L)
 
--- ---- the call
-module _ (l : Lent) (A : ℕ) (rect : Rect64) (path : List ℤ) (d : Try Drawing) where
+-- ---- the call: of an open path with no turns allowed
+pub call-is : (closed : Bool) (A : ℕ) (rect : Rect64) (path : List ℤ) (l : Lent)
+    → clip-path closed A rect path l ≡ answered l (early-refusal (length (l .store) / 2) (if closed then A else 0) (length (l .work)) rect path) (drawing-of closed (no-room (length (l .store) / 2)) A rect (points-of path))
+unfolding clip-closed clip-open
+call-is true A rect path l = refl
+call-is false A rect path l = refl
+
+module _ (closed : Bool) (A : ℕ) (rect : Rect64) (path : List ℤ) (l : Lent) where
+  abbrev W : ℕ
+  W = length (l .store) / 2
+
   abbrev early : ℕ
-  early = early-refusal (length (l .store) / 2) A (length (l .work)) rect path
+  early = early-refusal W (if closed then A else 0) (length (l .work)) rect path
+
+  abbrev drawing : Try Drawing
+  drawing = drawing-of closed (no-room W) A rect (points-of path)
 
   module _ (k : Admission) (ek : checked k ≡ admission early path) where
-    pub clips-early : (why : Refusal) → k ≡ Refused why → Clips (answered l early d) (answer.Refused why) l
+    clips-early : (why : Refusal) → k ≡ Refused why → Clips (answered l early drawing) (answer.Refused why) l
     unfolding answered
     clips-early why e =
         let n = told-stopped path early k ek why e in
         let z : eqb early 0 ≡ false = ap (λ (m : ℕ). eqb m 0) n ∙ number-not-zero why in
         record { answer = rw (z, n) refl; coordinates = rw z refl; lengths = rw z refl; store = rw z refl; work = rw z refl }
 
+    -- a call that is refused early
+    pub refused-call : (why : Refusal) → k ≡ Refused why → ClipsPath closed A rect path l (answer.Refused why) l
+    refused-call why e = record {
+      clips = subst (λ (a : After). Clips a (answer.Refused why) l) (sym (call-is closed A rect path l)) (clips-early why e);
+      returned = λ c q. absurd (let y : _≡_ {A = ℕ} 0 1 = cc in omega arith);
+    }
+
     module _ (bounds : Rect64) (e : k ≡ Admitted bounds) where
-      pub allowed : Let (length (l .store) / 2) A (length (l .work)) rect path
-      allowed = let-through (length (l .store) / 2) A (length (l .work)) rect path (told-admitted path early k ek bounds e .0)
+      pub allowed : Let W (if closed then A else 0) (length (l .work)) rect path
+      allowed = let-through W (if closed then A else 0) (length (l .work)) rect path (told-admitted path early k ek bounds e .0)
 
       pub bounds-are : bounds ≡ get-bounds-path (points-of path)
       bounds-are = told-admitted path early k ek bounds e .1
 
-      call-is : answered l early d ≡ answered l 0 d
-      call-is = ap (λ (n : ℕ). answered l n d) (told-admitted path early k ek bounds e .0)
+      left-is : clip-path closed A rect path l ≡ answered l 0 drawing
+      left-is = call-is closed A rect path l ∙ ap (λ (n : ℕ). answered l n drawing) (told-admitted path early k ek bounds e .0)
 
-      pub clips-cleared : {r : Answer} {coordinates′ : List ℤ} {lengths′ : List ℕ} → Leaves (answered l 0 d) r coordinates′ lengths′
+      -- demand 3 of its drawing
+      exact : (d : Drawing) → drawing ≡ ok d → Exactness closed rect (points-of path) (d .0)
+      exact d q = demand-3 closed (no-room W) A rect path d (call-bounded W (omega (arith, allowed .few))) (T-of (allowed .frame)) (T-of (allowed .points)) q
+
+      -- a call that is let through: the drawing is worked out, and both working lists are cleared
+      pub drawn-call : {r : Answer} {coordinates′ : List ℤ} {lengths′ : List ℕ} → Leaves (answered l 0 drawing) r coordinates′ lengths′
           → (store1 : List ℤ) (work1 : List ℕ) {store2 : List ℤ} {work2 : List ℕ} → length store1 ≡ length (l .store) → length work1 ≡ length (l .work) → store2 ≡ replicate (length store1) (pos 0) → work2 ≡ replicate (length work1) 0
-          → Clips (answered l early d) r (lent coordinates′ lengths′ store2 work2)
-      clips-cleared L store1 work1 a b s w = record {
-        answer = L .answer ∙ sym (ap (λ (x : After). x .answer) call-is);
-        coordinates = L .coords ∙ sym (ap (λ (x : After). x .lists .coordinates) call-is);
-        lengths = L .counts ∙ sym (ap (λ (x : After). x .lists .lengths) call-is);
-        store = s ∙ ap (λ (n : ℕ). replicate n (pos 0)) a ∙ sym (ap (λ (x : After). x .lists .store) call-is ∙ clears-store l d);
-        work = w ∙ ap (λ (n : ℕ). replicate n 0) b ∙ sym (ap (λ (x : After). x .lists .work) call-is ∙ clears-work l d);
+          → ClipsPath closed A rect path l r (lent coordinates′ lengths′ store2 work2)
+      drawn-call {coordinates′} {lengths′} L store1 work1 a b s w = record {
+        clips = record {
+          answer = L .answer ∙ sym (ap (λ (x : After). x .answer) left-is);
+          coordinates = L .coords ∙ sym (ap (λ (x : After). x .lists .coordinates) left-is);
+          lengths = L .counts ∙ sym (ap (λ (x : After). x .lists .lengths) left-is);
+          store = s ∙ ap (λ (n : ℕ). replicate n (pos 0)) a ∙ sym (ap (λ (x : After). x .lists .store) left-is ∙ clears-store l drawing);
+          work = w ∙ ap (λ (n : ℕ). replicate n 0) b ∙ sym (ap (λ (x : After). x .lists .work) left-is ∙ clears-work l drawing);
+        };
+        returned = λ c er. returns closed rect path l c coordinates′ lengths′ drawing exact L er;
+      }
+
+-- ---- what the two clippers ask of a call that is let through
+module _ (A : ℕ) (rect : Rect64) (path : List ℤ) (l : Lent) (k : Admission) (bounds : Rect64) (e : k ≡ Admitted bounds) where
+  pub drawable : checked k ≡ admission (early-refusal (length (l .store) / 2) 0 (length (l .work)) rect path) path → Drawable rect path bounds (l .store) (l .work)
+  drawable ek =
+      let a = allowed false 0 rect path l k ek bounds e in
+      record {
+        room = record { cells = omega (arith, a .cells); small = omega (arith, a .few) };
+        few = a .few;
+        frame = a .frame;
+        points = a .points;
+        bound = bounds-are false 0 rect path l k ek bounds e;
+      }
+
+  pub clippable : checked k ≡ admission (early-refusal (length (l .store) / 2) A (length (l .work)) rect path) path → Clippable rect path bounds A (l .store) (l .work)
+  clippable ek =
+      let a = allowed true A rect path l k ek bounds e in
+      record {
+        room = record { cells = a .cells; few = a .few; turns = a .turns };
+        even = a .even;
+        short = a .short;
+        frame = a .frame;
+        points = a .points;
+        bound = bounds-are true A rect path l k ek bounds e;
       }

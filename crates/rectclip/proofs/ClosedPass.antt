@@ -2,13 +2,10 @@
 use mathlib.Core.Path.{_≡_, refl, sym, _∙_, ap, subst}
 use mathlib.Core.Bool.{Bool, true, false}
 use mathlib.Core.List.{List}
-use Prim.Native.Nat.{ℕ, zero, suc, _+_, _-_, _/_, _<_, _≤_}
-use native.Mathlib.Omega.{arith}
+use Prim.Native.Nat.{ℕ, _+_, _-_, _/_, _<_, _≤_}
 use borrow.Author.Tests.{lt-ltb, le-ltb}
-use lib.IntN.{ℤ, pos, negsuc, negℤ, natAbs, _+ℤ_}
+use lib.IntN.{ℤ}
 use lib.ListN.{length}
-use lib.Signed.{quotZ}
-use Rattle.integers.specs.Order.{abs-add}
 use Rattle.plane.specs.declared.point.Point64.{Point64}
 use Rattle.plane.specs.declared.rect.Rect64.{Rect64}
 use Rattle.plane.specs.declared.location.Location.{Location}
@@ -17,11 +14,12 @@ use Rattle.plane.specs.declared.crossing.Search.{Search}
 use Rattle.plane.specs.declared.crossing.Search.the-variants.{Missed, Found}
 use Rattle.plane.specs.Basics.{ok, _>>=_}
 use Rattle.plane.specs.Intersection.{get-intersection}
-use Rattle.plane.specs.Limit.{rect-in-limit}
+use Rattle.plane.specs.Limit.{Limited}
 use Rattle.plane.specs.Locations.{is-inside, same-location}
 use Rattle.plane.specs.Points.{same-point, pt-at, points-of}
 use Rattle.plane.specs.Rectangle.{mid-point, get-location}
 use Rattle.plane.specs.Signs.{is-clockwise-dir}
+use Rattle.plane.proofs.CrossProduct.{mid-point-limited}
 use Rattle.reference.specs.Walk.{no-room, add, push-start-loc, push-start-locs, add-corners, add-corner-prev-curr, remain-outside, enter, pass-to, pass-through, leave, cross-boundary, pt-before}
 use Rattle.entry.specs.declared.answer.Refusal.{Refusal}
 use Rattle.entry.specs.declared.answer.Refusal.the-variants.{CrossingLost}
@@ -33,33 +31,18 @@ use Rattle.rectclip.specs.declared.next.NextState.{NextState}
 use Rattle.rectclip.specs.declared.closed.Pass.{Pass}
 use Rattle.rectclip.specs.declared.closed.Advance.{Advance}
 use Rattle.rectclip.specs.declared.closed.Advance.the-variants.{Refused}
-use Rattle.rectclip.specs.Bounds.{Reached, Turn}
+use Rattle.rectclip.specs.Bounds.{LimitedTurn}
 use Rattle.rectclip.specs.Walking.{walk-of, AddsCorners, Fits, Stepped}
 use Rattle.rectclip.specs.Moving.{next-of}
 use Rattle.rectclip.specs.Closing.{pass-of, advance-of, moves-on, first-of, enter-corners, pass-corner, pass-start, pass-in, pass-out, Closes, Passing, Advanced}
 use Rattle.rectclip.proofs.Coordinates.{points-length}
 use Rattle.rectclip.proofs.Limits.{framed}
-use Rattle.rectclip.proofs.Reach.{reached}
 use Rattle.rectclip.proofs.Walking.{step-walked}
 use Rattle.rectclip.proofs.Closing.{advance-refused, advance-as, step-as, step-next, step-lost, step-then, step-stops, step-ends, roomed, outside-starts, outside-corners, outside-stays, entry-first, entry-same, entry-corners, entry-parts, leave-parts, corner-passed, corner-none, start-first, start-none, in-parts, out-corner, out-point, pass-parts, through-missed, through-found, crossing-enters, crossing-passes, crossing-leaves}
 
 -- ---- points within the limit
-half-size : (z : ℤ) → natAbs (quotZ z (pos 2)) ≡ natAbs z / 2
-half-size (pos a) = refl
-half-size (negsuc a) = size (suc a / 2)
-  where
-    size : (n : ℕ) → natAbs (negℤ (pos n)) ≡ n
-    size zero = refl
-    size (suc n) = refl
-
-middle-size : (a b : ℤ) → natAbs a ≤ 33554432 → natAbs b ≤ 33554432 → natAbs (quotZ (a +ℤ b) (pos 2)) ≤ 33554433
-middle-size a b h k = let e = half-size (a +ℤ b) in let m = abs-add a b in omega arith
-
-pub close-middle : (r : Rect64) → rect-in-limit r ≡ true → Reached (mid-point r)
-close-middle r e = let F = framed r e in record { across = middle-size (r .left) (r .right) (F .left) (F .right); down = middle-size (r .top) (r .bottom) (F .top) (F .bottom) }
-
-pub turn-limited : {rect : Rect64} {c : Pass} {m : Point64} → Closes rect c → m ≡ mid-point rect → Turn (c .«prev_pt») m (c .pt)
-turn-limited {rect} H e = record { first = reached (H .start); second = subst Reached (sym e) (close-middle rect (H .frame)); third = reached (H .end) }
+pub turn-limited : {rect : Rect64} {c : Pass} {m : Point64} → Closes rect c → m ≡ mid-point rect → LimitedTurn (c .«prev_pt») m (c .pt)
+turn-limited {rect} H e = record { first = H .start; second = subst Limited (sym e) (mid-point-limited rect (framed rect (H .frame))); third = H .end }
 
 pub corners-of : {rect : Rect64} {store : List ℤ} {work : List ℕ} {c : Pass} → Passing rect store work c → AddsCorners rect store work (c .walk)
 corners-of H = record { fits = H .fits; limit = H .closes .frame }

@@ -67,4 +67,3 @@ pub mod WalkedArena
 pub mod OutlineClips
 pub mod Handing
 pub mod ClosedEntry
-pub mod ClosedCall

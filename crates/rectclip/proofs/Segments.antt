@@ -1,20 +1,17 @@
 -- `get_segment_intersection` way by way: which of its answers the signs of the cross products choose. Assumes nothing.
-use mathlib.Core.Path.{_≡_, refl, sym, ap, _∙_}
-use mathlib.Core.Bool.{Bool, true, false, _||_, Bool·beq}
+use mathlib.Core.Path.{_≡_, sym, ap, _∙_}
+use mathlib.Core.Bool.{Bool, true, false, Bool·beq}
 use lib.IntN.{ℤ, pos}
 use lib.Signed.{ltZ}
 use mir.Syntax.{w64}
 use mir.Val.{SFits, toZ, ofZ}
 use mir.Facts.{toZ-ofZ, sfits-lit}
 use Rattle.integers.specs.Tests.{eqZ, eq-plain, ne-plain}
-use Rattle.plane.specs.Basics.{if_then_else_}
-use Rattle.plane.specs.Segment.{workingOf, crossingOf, settledOf, intersection}
-use Rattle.plane.specs.Signs.{cross-product-sign, is-horizontal}
-use Rattle.plane.specs.Points.{same-point}
+use Rattle.plane.specs.Segment.{intersection}
+use Rattle.plane.specs.Signs.{cross-product-sign}
 use Rattle.plane.specs.Intersection.{at-end, get-segment-intersection}
-use Rattle.plane.specs.declared.crossing.Crossing.{Crossing}
-use Rattle.plane.specs.declared.crossing.Crossing.the-variants.{Nothing, At}
-use Rattle.plane.specs.declared.crossing.Working.{Working}
+use Rattle.plane.specs.declared.crossing.Meeting.{Meeting}
+use Rattle.plane.specs.declared.crossing.Meeting.the-variants.{Apart}
 use Rattle.plane.specs.declared.point.Point64.{Point64}
 use Rattle.rectclip.specs.Parted.{edge-ends}
 
@@ -30,21 +27,6 @@ pub alike : {r s a b : ℤ} {t : Bool} → SFits w64 r → SFits w64 s → r ≡
     → Bool·beq (ltZ (pos 0) (toZ w64 (ofZ w64 r))) (ltZ (pos 0) (toZ w64 (ofZ w64 s))) ≡ t → Bool·beq (ltZ (pos 0) a) (ltZ (pos 0) b) ≡ t
 alike f g e h t = sym (λ i. Bool·beq (ltZ (pos 0) ((toZ-ofZ f ∙ e) i)) (ltZ (pos 0) ((toZ-ofZ g ∙ h) i))) ∙ t
 
--- an answer that holds no fraction is left as it is
-at-if : (s t u v : Bool) (p : Point64) (w : Working) →
-    let answer : Crossing = if s then At p else if t then (if u then At p else Nothing) else (if v then At p else Nothing) in
-    settledOf answer w ≡ answer
-at-if true t u v p w = refl
-at-if false true true v p w = refl
-at-if false true false v p w = refl
-at-if false false u true p w = refl
-at-if false false u false p w = refl
-
-settled-end : (p a b : Point64) (w : Working) → settledOf (at-end p a b) w ≡ at-end p a b
-unfolding at-end
-settled-end p a b w =
-    at-if (same-point p a || same-point p b) (is-horizontal a b) (Bool·beq (ltZ (a .x) (p .x)) (ltZ (p .x) (b .x))) (Bool·beq (ltZ (a .y) (p .y)) (ltZ (p .y) (b .y))) p w
-
 module _ (p1 p2 p3 p4 : Point64) where
   abbrev s1 : ℤ
   s1 = cross-product-sign p1 p3 p4
@@ -58,8 +40,8 @@ module _ (p1 p2 p3 p4 : Point64) where
   abbrev s4 : ℤ
   s4 = cross-product-sign p4 p1 p2
 
-  abbrev whole : Crossing
-  whole = settledOf (get-segment-intersection p1 p2 p3 p4) (workingOf p1 p2 p3 p4)
+  abbrev whole : Meeting
+  whole = get-segment-intersection p1 p2 p3 p4
 
   -- the later half
   pub edge-first : eqZ s3 (pos 0) ≡ true → at-end p3 p1 p2 ≡ edge-ends p1 p2 p3 p4
@@ -70,7 +52,7 @@ module _ (p1 p2 p3 p4 : Point64) where
   unfolding edge-ends
   edge-second e f = rw (e, f)
 
-  pub edge-past : eqZ s3 (pos 0) ≡ false → eqZ s4 (pos 0) ≡ false → Bool·beq (ltZ (pos 0) s3) (ltZ (pos 0) s4) ≡ true → Nothing ≡ edge-ends p1 p2 p3 p4
+  pub edge-past : eqZ s3 (pos 0) ≡ false → eqZ s4 (pos 0) ≡ false → Bool·beq (ltZ (pos 0) s3) (ltZ (pos 0) s4) ≡ true → Apart ≡ edge-ends p1 p2 p3 p4
   unfolding edge-ends
   edge-past e f g = rw (e, f, g)
 
@@ -79,29 +61,22 @@ module _ (p1 p2 p3 p4 : Point64) where
   edge-between e f g = rw (e, f, g)
 
   -- the whole
-  pub collinear : eqZ s1 (pos 0) ≡ true → eqZ s2 (pos 0) ≡ true → Nothing ≡ whole
+  pub collinear : eqZ s1 (pos 0) ≡ true → eqZ s2 (pos 0) ≡ true → Apart ≡ whole
   unfolding get-segment-intersection
   collinear e f = rw (e, f)
 
   pub start-on : eqZ s1 (pos 0) ≡ true → eqZ s2 (pos 0) ≡ false → at-end p1 p3 p4 ≡ whole
   unfolding get-segment-intersection
-  start-on e f = rw (e, f) (sym (settled-end p1 p3 p4 (workingOf p1 p2 p3 p4)))
+  start-on e f = rw (e, f)
 
   pub end-on : eqZ s1 (pos 0) ≡ false → eqZ s2 (pos 0) ≡ true → at-end p2 p3 p4 ≡ whole
   unfolding get-segment-intersection
-  end-on e f = rw (e, f) (sym (settled-end p2 p3 p4 (workingOf p1 p2 p3 p4)))
+  end-on e f = rw (e, f)
 
-  pub one-side : eqZ s1 (pos 0) ≡ false → eqZ s2 (pos 0) ≡ false → Bool·beq (ltZ (pos 0) s1) (ltZ (pos 0) s2) ≡ true → Nothing ≡ whole
+  pub one-side : eqZ s1 (pos 0) ≡ false → eqZ s2 (pos 0) ≡ false → Bool·beq (ltZ (pos 0) s1) (ltZ (pos 0) s2) ≡ true → Apart ≡ whole
   unfolding get-segment-intersection
   one-side e f g = rw (e, f, g)
 
   pub both-sides : eqZ s1 (pos 0) ≡ false → eqZ s2 (pos 0) ≡ false → Bool·beq (ltZ (pos 0) s1) (ltZ (pos 0) s2) ≡ false → edge-ends p1 p2 p3 p4 ≡ whole
-  unfolding get-segment-intersection edge-ends intersection
-  both-sides e f g = rw (e, f, g) (later (eqZ s3 (pos 0)) (eqZ s4 (pos 0)) (Bool·beq (ltZ (pos 0) s3) (ltZ (pos 0) s4)))
-    where
-      later : (a b d : Bool) → (if a then at-end p3 p1 p2 else if b then at-end p4 p1 p2 else if d then Nothing else intersection p1 p2 p3 p4)
-          ≡ settledOf (if a then at-end p3 p1 p2 else if b then at-end p4 p1 p2 else if d then Nothing else crossingOf (workingOf p1 p2 p3 p4) p1 p2) (workingOf p1 p2 p3 p4)
-      later true b d = sym (settled-end p3 p1 p2 (workingOf p1 p2 p3 p4))
-      later false true d = sym (settled-end p4 p1 p2 (workingOf p1 p2 p3 p4))
-      later false false true = refl
-      later false false false = refl
+  unfolding get-segment-intersection edge-ends
+  both-sides e f g = rw (e, f, g)

@@ -27,6 +27,12 @@ pub record Turn (p q r : Point64) : Type 0 where
   pub second : Reached q
   pub third : Reached r
 
+-- the same within the coordinate limit, where a binary64 cross product is exact
+pub record LimitedTurn (p q r : Point64) : Type 0 where
+  pub first : Limited p
+  pub second : Limited q
+  pub third : Limited r
+
 -- the products of `cross_product_sign`
 abbrev pub cross-products : Point64 → Point64 → Point64 → Products
 cross-products p1 p2 p3 = record { ab = (p2 .x -ℤ p1 .x) *ℤ (p3 .y -ℤ p2 .y); cd = (p2 .y -ℤ p1 .y) *ℤ (p3 .x -ℤ p2 .x) }

@@ -17,5 +17,4 @@ pub mod Edges
 pub mod Paths
 pub mod Turns
 pub mod Clipping
-pub mod ClosedPromises
 pub mod Delivering

@@ -1,4 +1,4 @@
--- What the line clipper's entry promises: its answer, every lent list afterwards, and where the returned points come from.
+-- What the entries of both clippers promise: the answer, every lent list afterwards, and demand 3 of the paths that a result returns.
 use mathlib.Core.Path.{_≡_}
 use mathlib.Core.Bool.{Bool, true, false}
 use mathlib.Core.List.{List, map}
@@ -7,13 +7,12 @@ use lib.IntN.{ℤ}
 use lib.ListN.{length, take}
 use Rattle.plane.specs.declared.point.Point64.{Point64}
 use Rattle.plane.specs.declared.rect.Rect64.{Rect64}
-use Rattle.plane.specs.Basics.{Try, ok, _>>=_}
+use Rattle.plane.specs.Basics.{Try}
 use Rattle.plane.specs.Limit.{all-in-limit, rect-in-limit}
 use Rattle.plane.specs.Points.{points-of, coordinates-of}
 use Rattle.plane.specs.Rectangle.{get-bounds-path}
-use Rattle.theorems.specs.Demand.{Sourced}
-use Rattle.reference.specs.Entry.{Drawing, Lent, After, joined, delivered, clip-open, filled-part}
-use Rattle.reference.specs.Lines.{execute-lines}
+use Rattle.theorems.specs.Demand.{Exactness}
+use Rattle.reference.specs.Entry.{Drawing, Lent, After, joined, drawing-of, delivered, clip-path, filled-part}
 use Rattle.reference.specs.Walk.{no-room}
 use Rattle.entry.specs.declared.answer.Answer.{Answer}
 use Rattle.entry.specs.declared.answer.Answer.the-variants.{Drawn}
@@ -42,17 +41,24 @@ pub record Leaves (a : After) (r : Answer) (coordinates : List ℤ) (lengths : L
   pub coords : coordinates ≡ a .lists .coordinates
   pub counts : lengths ≡ a .lists .lengths
 
--- the paths that a result returned stand in the leading entries, and each of their points has its source
-pub record Returned (closed : Bool) (rect : Rect64) (path : List ℤ) (c : Counts) (lists : Lent) : Type 0 where
+-- so many paths with so many points stand in the leading entries of the two lists that a result fills, and they have demand 3
+pub record Returned (closed : Bool) (rect : Rect64) (path : List ℤ) (count points : ℕ) (coordinates : List ℤ) (lengths : List ℕ) : Type 0 where
   pub paths : List (List Point64)
-  pub points : filled-part (lists .coordinates) (c .points) ≡ coordinates-of (joined paths)
-  pub counts : take (c .paths) (lists .lengths) ≡ map length paths
-  pub sourced : Sourced closed rect (points-of path) paths
+  pub path-count : count ≡ length paths
+  pub point-count : points ≡ length (joined paths)
+  pub point-entries : filled-part coordinates points ≡ coordinates-of (joined paths)
+  pub length-entries : take count lengths ≡ map length paths
+  pub exact : Exactness closed rect (points-of path) paths
 
--- `RectClipLines64::execute`: r is the answer, `before` and `after` are the lent lists
-pub record ClipsOpen (rect : Rect64) (path : List ℤ) (before : Lent) (r : Answer) (after : Lent) : Type 0 where
-  pub clips : Clips (clip-open rect path before) r after
-  pub returned : (c : Counts) → r ≡ Drawn c → Returned false rect path c after
+-- where the answer is a result: as many paths and points as its counts say
+abbrev pub ReturnedBy : Bool → Rect64 → List ℤ → Answer → List ℤ → List ℕ → Type 0
+ReturnedBy closed rect path r coordinates lengths = (c : Counts) → r ≡ Drawn c → Returned closed rect path (c .paths) (c .points) coordinates lengths
+
+-- `RectClip64::execute` with the turn allowance A, and `RectClipLines64::execute`, by the path's kind: r is the answer, `before` and `after` are
+-- the lent lists
+pub record ClipsPath (closed : Bool) (A : ℕ) (rect : Rect64) (path : List ℤ) (before : Lent) (r : Answer) (after : Lent) : Type 0 where
+  pub clips : Clips (clip-path closed A rect path before) r after
+  pub returned : ReturnedBy closed rect path r (after .coordinates) (after .lengths)
 
 -- ---- words of the private functions
 -- a drawing is handed out; what store and work hold does not matter
@@ -61,7 +67,7 @@ pub record Delivers (d : Drawing) (coordinates : List ℤ) (lengths : List ℕ) 
 
 -- the line clipper's drawing
 abbrev pub line-drawing : Rect64 → List ℤ → ℕ → Try Drawing
-line-drawing rect path W = execute-lines (no-room W) rect (points-of path) >>= λ paths. ok (paths, 0)
+line-drawing rect path W = drawing-of false (no-room W) 0 rect (points-of path)
 
 -- a call that no early refusal stopped, and the path's bounds
 pub record Drawable (rect : Rect64) (path : List ℤ) (bounds : Rect64) (store : List ℤ) (work : List ℕ) : Type 0 where

@@ -1,11 +1,12 @@
 // `RectClipLines64`: one open path clipped to a rectangle.
 ghost use mathlib.Core.Path.{_≡_};
+ghost use mathlib.Core.Bool.{false};
 ghost use Prim.Native.Nat.{_/_};
 ghost use lib.ListN.{length};
 ghost use Rattle.reference.specs.Entry.{answered};
 ghost use Rattle.rectclip.specs.Walking.{walk-of, Fits};
 ghost use Rattle.rectclip.specs.Pieces.{paths-of};
-ghost use Rattle.rectclip.specs.Promises.{lent, line-drawing, ClipsOpen, Leaves, Delivers, Drawable};
+ghost use Rattle.rectclip.specs.Promises.{lent, line-drawing, ClipsPath, Leaves, Delivers, Drawable};
 use crate::line_walk::line_walk;
 use crate::lists::clear_store;
 use crate::lists::clear_work;
@@ -106,7 +107,7 @@ impl RectClipLines64 {
         coordinates: &mut [i64],
         lengths: &mut [u32],
     ) -> Answer
-        ensures { λ r. ⌜ ClipsOpen (self .rect) (now (path .entry)) (lent (now (coordinates .entry)) (now (lengths .entry)) (now (store .entry)) (now (work .entry))) r (lent (now (coordinates .exit)) (now (lengths .exit)) (now (store .exit)) (now (work .exit))) ⌝ }
+        ensures { λ r. ⌜ ClipsPath false 0 (self .rect) (now (path .entry)) (lent (now (coordinates .entry)) (now (lengths .entry)) (now (store .entry)) (now (work .entry))) r (lent (now (coordinates .exit)) (now (lengths .exit)) (now (store .exit)) (now (work .exit))) ⌝ }
     {
         let rect = self.rect;
         match admit(rect, path, store.len() / 2, 0, work.len()) {

@@ -1,12 +1,12 @@
 // `RectClip64`: one closed path clipped to a rectangle.
 ghost use mathlib.Core.Path.{_≡_};
+ghost use mathlib.Core.Bool.{true};
 ghost use Prim.Native.Nat.{_/_};
 ghost use lib.ListN.{length};
 ghost use Rattle.plane.specs.Points.{points-of};
 ghost use Rattle.reference.specs.Walk.{no-room};
 ghost use Rattle.reference.specs.Clip.{clip-walked, execute};
-ghost use Rattle.rectclip.specs.Promises.{lent};
-ghost use Rattle.rectclip.specs.ClosedPromises.{ClipsClosed};
+ghost use Rattle.rectclip.specs.Promises.{lent, ClipsPath};
 ghost use Rattle.rectclip.specs.Delivering.{walked-of, walk-drawing, Gives, OutlineClips, WalkClips, Clippable};
 use crate::clipping::clip_walked;
 use crate::deliver::deliver_copy;
@@ -115,7 +115,7 @@ impl RectClip64 {
         coordinates: &mut [i64],
         lengths: &mut [u32],
     ) -> Answer
-        ensures { λ r. ⌜ ClipsClosed allowance (self .rect) (now (path .entry)) (lent (now (coordinates .entry)) (now (lengths .entry)) (now (store .entry)) (now (work .entry))) r (lent (now (coordinates .exit)) (now (lengths .exit)) (now (store .exit)) (now (work .exit))) ⌝ }
+        ensures { λ r. ⌜ ClipsPath true allowance (self .rect) (now (path .entry)) (lent (now (coordinates .entry)) (now (lengths .entry)) (now (store .entry)) (now (work .entry))) r (lent (now (coordinates .exit)) (now (lengths .exit)) (now (store .exit)) (now (work .exit))) ⌝ }
     {
         let rect = self.rect;
         let most = allowance as usize;

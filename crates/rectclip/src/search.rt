@@ -4,17 +4,16 @@ ghost use mathlib.Core.Path.{_≡_};
 ghost use lib.Signed.{ltZ};
 ghost use Rattle.plane.specs.Basics.{if_then_else_};
 ghost use Rattle.plane.specs.Limit.{AllLimited};
-ghost use Rattle.plane.specs.Segment.{workingOf, settledOf};
 ghost use Rattle.plane.specs.Intersection.{at-end, get-segment-intersection, edge-from, edge-to, edge-intersection, side-intersection, get-intersection};
 ghost use Rattle.plane.specs.Points.{pt-at};
 ghost use Rattle.plane.specs.Rectangle.{as-path};
 ghost use Rattle.plane.specs.declared.location.Location.the-variants.{Inside};
-ghost use Rattle.plane.specs.declared.crossing.Crossing.the-variants.{At, Nothing};
+ghost use Rattle.plane.specs.declared.crossing.Meeting.the-variants.{Met, Apart};
 ghost use Rattle.rectclip.specs.Bounds.{SearchLimits, InReach};
 ghost use Rattle.rectclip.specs.Parted.{edge-ends, beyond-intersection};
 use crate::segment::cross_product_sign;
 use crate::segment::get_segment_intersect_pt;
-use plane::crossing::Crossing;
+use plane::crossing::Meeting;
 use plane::crossing::Search;
 use plane::direction::is_horizontal;
 use plane::location::Location;
@@ -22,21 +21,21 @@ use plane::point::Point64;
 use plane::rect::Rect64;
 
 // The point, if mid is between low and high.
-fn point_between(p: Point64, low: i64, mid: i64, high: i64) -> Crossing
-    ensures { λ r. ⌜ r ≡ (if Bool·beq (ltZ low mid) (ltZ mid high) then At p else Nothing) ⌝ }
+fn point_between(p: Point64, low: i64, mid: i64, high: i64) -> Meeting
+    ensures { λ r. ⌜ r ≡ (if Bool·beq (ltZ low mid) (ltZ mid high) then Met p else Apart) ⌝ }
 {
     if (low < mid) == (mid < high) {
-        return Crossing::At(p);
+        return Meeting::Met(p);
     }
-    Crossing::Nothing
+    Meeting::Apart
 }
 
 // The point p, which is on the line through a and b, if it lies between them.
-pub(crate) fn at_end(p: Point64, a: Point64, b: Point64) -> Crossing
+pub(crate) fn at_end(p: Point64, a: Point64, b: Point64) -> Meeting
     ensures { λ r. ⌜ r ≡ at-end p a b ⌝ }
 {
     if p.equals(a) | p.equals(b) {
-        return Crossing::At(p);
+        return Meeting::Met(p);
     }
     if is_horizontal(a, b) {
         return point_between(p, a.x, p.x, b.x);
@@ -45,7 +44,7 @@ pub(crate) fn at_end(p: Point64, a: Point64, b: Point64) -> Crossing
 }
 
 // The crossing of a segment whose ends are strictly on either side of the edge's line: an end of the edge on the segment, or a point between.
-fn edge_ends(p1: Point64, p2: Point64, p3: Point64, p4: Point64) -> Crossing
+fn edge_ends(p1: Point64, p2: Point64, p3: Point64, p4: Point64) -> Meeting
     requires { ⌜ AllLimited p1 p2 p3 p4 ⌝ }
     ensures { λ r. ⌜ r ≡ edge-ends p1 p2 p3 p4 ⌝ }
 {
@@ -58,26 +57,26 @@ fn edge_ends(p1: Point64, p2: Point64, p3: Point64, p4: Point64) -> Crossing
         return at_end(p4, p1, p2);
     }
     if (0 < res3) == (0 < res4) {
-        return Crossing::Nothing;
+        return Meeting::Apart;
     }
     get_segment_intersect_pt(p1, p2, p3, p4)
 }
 
-// The crossing of the segment from p1 to p2 with the edge from p3 to p4, cut to whole numbers. Ends before floats; collinear segments answer no.
+// Where the segment from p1 to p2 and the edge from p3 to p4 meet, in whole numbers. Ends before floats; collinear segments answer no.
 pub(crate) fn get_segment_intersection(
     p1: Point64,
     p2: Point64,
     p3: Point64,
     p4: Point64,
-) -> Crossing
+) -> Meeting
     requires { ⌜ AllLimited p1 p2 p3 p4 ⌝ }
-    ensures { λ r. ⌜ r ≡ settledOf (get-segment-intersection p1 p2 p3 p4) (workingOf p1 p2 p3 p4) ⌝ }
+    ensures { λ r. ⌜ r ≡ get-segment-intersection p1 p2 p3 p4 ⌝ }
 {
     let res1 = cross_product_sign(p1, p3, p4);
     let res2 = cross_product_sign(p2, p3, p4);
     if res1 == 0 {
         if res2 == 0 {
-            return Crossing::Nothing;
+            return Meeting::Apart;
         }
         return at_end(p1, p3, p4);
     }
@@ -85,7 +84,7 @@ pub(crate) fn get_segment_intersection(
         return at_end(p2, p3, p4);
     }
     if (0 < res1) == (0 < res2) {
-        return Crossing::Nothing;
+        return Meeting::Apart;
     }
     edge_ends(p1, p2, p3, p4)
 }
@@ -123,11 +122,10 @@ pub(crate) fn edge_intersection(rect: Rect64, side: Location, p: Point64, p2: Po
 {
     let a = edge_from(rect, side);
     let b = edge_to(rect, side);
-    let crossing = get_segment_intersection(p, p2, a, b);
-    match crossing {
-        Crossing::Nothing => Search::Missed,
-        Crossing::At(q) => Search::Found(q, side),
-        Crossing::Along(t) => Search::Missed,
+    let meeting = get_segment_intersection(p, p2, a, b);
+    match meeting {
+        Meeting::Apart => Search::Missed,
+        Meeting::Met(q) => Search::Found(q, side),
     }
 }
 

@@ -5,8 +5,9 @@ ghost use Rattle.plane.specs.Limit.{AllLimited};
 ghost use Rattle.plane.specs.Signs.{cross-product-sign, is-collinear, cross-product-is-negative, is-clockwise-dir};
 ghost use Rattle.plane.specs.Segment.{workingOf, crossingOf, pointAt, settledOf, intersection};
 ghost use Rattle.plane.specs.Found.{NearCrossing};
-ghost use Rattle.rectclip.specs.Bounds.{Turn, cross-products};
+ghost use Rattle.rectclip.specs.Bounds.{Turn, LimitedTurn, cross-products};
 use plane::crossing::Crossing;
+use plane::crossing::Meeting;
 use plane::crossing::Working;
 use plane::location::Location;
 use plane::point::Point64;
@@ -56,9 +57,9 @@ pub(crate) fn is_collinear(p1: Point64, shared: Point64, p2: Point64) -> bool
     turn.ab == turn.cd
 }
 
-// `cross_product_three_points < 0.0`.
+// `cross_product_three_points < 0.0`: within the coordinate limit the binary64 numbers are whole numbers that i64 holds.
 pub(crate) fn cross_product_is_negative(p1: Point64, p2: Point64, p3: Point64) -> bool
-    requires { ⌜ Turn p1 p2 p3 ⌝ }
+    requires { ⌜ LimitedTurn p1 p2 p3 ⌝ }
     ensures { λ r. ⌜ r ≡ cross-product-is-negative p1 p2 p3 ⌝ }
 {
     let turn = cross_products(p1, p2, p3);
@@ -73,7 +74,7 @@ pub(crate) fn is_clockwise_dir(
     curr_pt: Point64,
     rect_mp: Point64,
 ) -> bool
-    requires { ⌜ Turn «prev_pt» «rect_mp» «curr_pt» ⌝ }
+    requires { ⌜ LimitedTurn «prev_pt» «rect_mp» «curr_pt» ⌝ }
     ensures { λ r. ⌜ r ≡ is-clockwise-dir prev curr «prev_pt» «curr_pt» «rect_mp» ⌝ }
 {
     if prev.are_opposites(curr) {
@@ -141,19 +142,19 @@ pub(crate) fn point_at(w: Working, t: f64) -> Point64
     Point64 { x, y }
 }
 
-// The crossing with its fraction cut to a point.
-pub(crate) fn settled(c: Crossing, w: Working) -> Crossing
+// Where the segment and the edge meet: the crossing, its fraction cut to a point.
+pub(crate) fn settled(c: Crossing, w: Working) -> Meeting
     ensures { λ r. ⌜ r ≡ settledOf c w ⌝ }
 {
     match c {
-        Crossing::Nothing => Crossing::Nothing,
-        Crossing::At(p) => Crossing::At(p),
-        Crossing::Along(t) => Crossing::At(point_at(w, t)),
+        Crossing::Nothing => Meeting::Apart,
+        Crossing::At(p) => Meeting::Met(p),
+        Crossing::Along(t) => Meeting::Met(point_at(w, t)),
     }
 }
 
-// The crossing of the segment from a to b and the edge from c to d.
-pub(crate) fn get_segment_intersect_pt(a: Point64, b: Point64, c: Point64, d: Point64) -> Crossing
+// Where the segment from a to b and the edge from c to d meet, in binary64.
+pub(crate) fn get_segment_intersect_pt(a: Point64, b: Point64, c: Point64, d: Point64) -> Meeting
     requires { ⌜ AllLimited a b c d ⌝ }
     ensures is { λ r. ⌜ r ≡ intersection a b c d ⌝ }
     ensures near { λ r. ⌜ NearCrossing a b c d r ⌝ }

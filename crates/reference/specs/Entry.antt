@@ -1,5 +1,5 @@
 -- The entries: which refusal comes first, what a result gives, and what every lent list holds afterwards.
-use mathlib.Core.Bool.{not, _&&_, _||_}
+use mathlib.Core.Bool.{Bool, true, false, not, _&&_, _||_}
 use mathlib.Core.List.{List, [], _∷_, _++_, map}
 use Prim.Native.Nat.{ℕ, _+_, _*_, _/_, _%_}
 use lib.ListN.{length, take, drop, replicate}
@@ -84,16 +84,27 @@ answered l early drawing =
     let late : After = elim drawing [ refuse n ↦ record { answer = refused n; lists = cleared (l .coordinates) (l .lengths) l } | ok d ↦ delivered l d ] in
     if eqb early 0 then late else record { answer = refused early; lists = l }
 
--- ---- the two clippers, for one path. W is half the store's length, rounded down
+-- ---- the two clippers, for one path
+-- `RectClip64::execute` and `RectClipLines64::execute`, by the path's kind, with the turn allowance A; lines take no turns
+abbrev pub drawing-of : Bool → (ℕ → Bool) → ℕ → Rect64 → List Point64 → Try Drawing
+drawing-of true full A rect path = execute full A rect path
+drawing-of false full A rect path = execute-lines full rect path >>= λ paths. ok (paths, 0)
+
+-- W is half the store's length, rounded down
 unfoldable pub clip-closed : ℕ → Rect64 → List ℤ → Lent → After
 clip-closed A rect coords l =
     let W = length (l .store) / 2 in
-    answered l (early-refusal W A (length (l .work)) rect coords) (execute (no-room W) A rect (points-of coords))
+    answered l (early-refusal W A (length (l .work)) rect coords) (drawing-of true (no-room W) A rect (points-of coords))
 
 unfoldable pub clip-open : Rect64 → List ℤ → Lent → After
 clip-open rect coords l =
     let W = length (l .store) / 2 in
-    answered l (early-refusal W 0 (length (l .work)) rect coords) (execute-lines (no-room W) rect (points-of coords) >>= λ paths. ok (paths, 0))
+    answered l (early-refusal W 0 (length (l .work)) rect coords) (drawing-of false (no-room W) 0 rect (points-of coords))
+
+-- the clipper of the path's kind
+abbrev pub clip-path : Bool → ℕ → Rect64 → List ℤ → Lent → After
+clip-path true A rect coords l = clip-closed A rect coords l
+clip-path false A rect coords l = clip-open rect coords l
 
 -- the second call: the filled part of the coordinate list, for a number of points; empty where the list cannot hold them
 unfoldable pub filled-part : List ℤ → ℕ → List ℤ

@@ -7,12 +7,10 @@ use lib.ListN.{length}
 use lib.Dec.{eqb, ltb}
 use lib.IntN.{ℤ, pos, negsuc, _-ℤ_}
 use Rattle.plane.specs.declared.rect.Rect64.{Rect64}
-use Rattle.plane.specs.Basics.{if_then_else_, refuse, ok, _>>=_}
+use Rattle.plane.specs.Basics.{if_then_else_, refuse, ok}
 use Rattle.plane.specs.Points.{points-of, coordinates-of}
 use Rattle.reference.specs.Walk.{no-room}
-use Rattle.reference.specs.Lines.{execute-lines}
-use Rattle.reference.specs.Clip.{execute}
-use Rattle.reference.specs.Entry.{Drawing, joined, sheet-refusal, filled}
+use Rattle.reference.specs.Entry.{Drawing, joined, drawing-of, sheet-refusal, filled}
 
 -- four bytes of a number, the lowest first
 abbrev pub word : ℕ → List ℕ
@@ -46,7 +44,7 @@ exported closed rect bytes coordinates lengths counts =
     let coords = read-words bytes in
     let refused : ℕ → Bytes = λ n. (n, coordinates, lengths, counts) in
     let early = if not (eqb (length bytes % 8) 0) then 1 else sheet-refusal 128 rect coords in
-    let drawing = if closed then execute (no-room 256) 256 rect (points-of coords) else (execute-lines (no-room 256) rect (points-of coords) >>= λ paths. ok (paths, 0)) in
+    let drawing = drawing-of closed (no-room 256) 256 rect (points-of coords) in
     let sent : Drawing → Bytes = λ d.
     let c = words (map bits (coordinates-of (joined (d .0)))) in
     let n = words (map length (d .0)) in

@@ -287,6 +287,6 @@ module _ (full : ℕ → Bool) (rect : Rect64) (path : List Point64) where
       else from-edge
 
 -- The walked outline of a rectangle and a closed path. With room for all points the walk is never refused within the coordinate limit
--- (`outline-drawn` in proofs/Ninth.antt); beyond it a refused walk has the empty list here.
+-- (`OutlineDrawn` in theorems/specs/Outline.antt); beyond it a refused walk has the empty list here.
 unfoldable pub walked-outline : Rect64 → List Point64 → List Point64
 walked-outline rect path = elim (walk-closed unlimited rect path) [ refuse n ↦ [] | ok w ↦ w .walk .points ]

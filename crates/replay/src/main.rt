@@ -1,5 +1,6 @@
 // The replay program: each stored drawing is answered again, and the answer compared with the stored one. It prints the line of
-// each drawing whose answer differs, then how many drawings there are and how many answers are as stored.
+// each drawing whose answer differs, then how many drawings there are and how many answers are as stored. A read that fails
+// counts as the input's end, and a write that fails ends it.
 ghost use Rattle.replay.specs.Fits.{Fits};
 
 mod replay;
@@ -25,19 +26,38 @@ fn replay_lines(answer: &mut [u8; 12288], stored: &mut [u8; 12288]) -> Replay
         }
         let k = taken.count;
         state = state.next(number, &line[..k], answer, stored);
+        if state.stopped | !taken.ended {
+            return state;
+        }
         cursor = taken.cursor;
         number += 1;
     }
     state
 }
 
+// How many drawings there are and how many answers are as stored.
+fn print_counts(drawings: u64, same: u64) {
+    if !io::print_decimal(STDOUT_FILENO, drawings) {
+        return;
+    }
+    if !io::write_all(STDOUT_FILENO, b" drawings, ") {
+        return;
+    }
+    if !io::print_decimal(STDOUT_FILENO, same) {
+        return;
+    }
+    io::write_all(STDOUT_FILENO, b" as stored\n");
+}
+
 fn main() {
     let mut answer = [0u8; 12288];
     let mut stored = [0u8; 12288];
     let state = replay_lines(&mut answer, &mut stored);
+    if state.stopped {
+        return;
+    }
     let end = state.settled(&answer, &stored);
-    io::print_decimal(STDOUT_FILENO, end.drawings);
-    io::write_all(STDOUT_FILENO, b" drawings, ");
-    io::print_decimal(STDOUT_FILENO, end.same);
-    io::write_all(STDOUT_FILENO, b" as stored\n");
+    if !end.stopped {
+        print_counts(end.drawings, end.same);
+    }
 }

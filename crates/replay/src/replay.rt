@@ -13,7 +13,7 @@ use text::reading::Request;
 use text::reading::read_line;
 
 // The rectangle; the last drawing's line (0 before the first), how many bytes its answer has and how many were stored for it;
-// drawings and equal answers so far, the last one not counted.
+// drawings and equal answers so far, the last one not counted; whether a write has failed, which ends the program.
 pub(crate) struct Replay {
     pub rect: Rect64,
     pub line: u64,
@@ -21,6 +21,7 @@ pub(crate) struct Replay {
     pub kept: usize,
     pub drawings: u64,
     pub same: u64,
+    pub stopped: bool,
 }
 
 // Whether the fronts of two lists are equal.
@@ -57,10 +58,23 @@ fn keep(line: &[u8], stored: &mut [u8; 12288], from: usize) -> usize
     put(10, stored, end)
 }
 
-fn print_difference(line: u64) {
-    io::write_all(STDOUT_FILENO, b"line ");
-    io::print_decimal(STDOUT_FILENO, line);
-    io::write_all(STDOUT_FILENO, b" differs\n");
+// Answers whether all of it was written.
+fn print_difference(line: u64) -> bool {
+    if !io::write_all(STDOUT_FILENO, b"line ") {
+        return false;
+    }
+    if !io::print_decimal(STDOUT_FILENO, line) {
+        return false;
+    }
+    io::write_all(STDOUT_FILENO, b" differs\n")
+}
+
+// Prints a drawing whose answer is not the stored one; answers whether a write failed.
+fn print_unless(equal: bool, line: u64) -> bool {
+    if equal {
+        return false;
+    }
+    !print_difference(line)
 }
 
 // Line 1 of the clip program's input, as far as it is one.
@@ -81,6 +95,7 @@ impl Replay {
             kept: 0,
             drawings: 0,
             same: 0,
+            stopped: false,
         }
     }
 
@@ -93,9 +108,7 @@ impl Replay {
             return self;
         }
         let equal = same_fronts(answer, self.size, stored, self.kept);
-        if !equal {
-            print_difference(self.line);
-        }
+        let stopped = print_unless(equal, self.line);
         let rect = self.rect;
         Replay {
             rect,
@@ -104,6 +117,7 @@ impl Replay {
             kept: 0,
             drawings: wrapping_add_u64(self.drawings, 1),
             same: wrapping_add_u64(self.same, equal as u64),
+            stopped,
         }
     }
 
@@ -121,6 +135,7 @@ impl Replay {
             kept,
             drawings: self.drawings,
             same: self.same,
+            stopped: self.stopped,
         }
     }
 
@@ -131,6 +146,7 @@ impl Replay {
     {
         let drawings = self.drawings;
         let same = self.same;
+        let stopped = self.stopped;
         let request = read_first(line);
         if let Request::Rectangle(rect) = request {
             return Replay {
@@ -140,6 +156,7 @@ impl Replay {
                 kept: 0,
                 drawings,
                 same,
+                stopped,
             };
         }
         let rect = self.rect;
@@ -151,6 +168,7 @@ impl Replay {
             kept: 0,
             drawings,
             same,
+            stopped,
         }
     }
 

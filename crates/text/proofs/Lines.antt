@@ -18,7 +18,7 @@ use Rattle.text.specs.declared.reading.Request.the-variants.{Unreadable,
 use Rattle.text.specs.Decimal.{Field, no-number, number, field}
 use Rattle.text.specs.Reading.{Request, unreadable, rectangle-of, put-first, fields, numbers, asked, asked-by, request}
 use Rattle.text.specs.Scanning.{counted, leading, behind, leading-behind, path-asked, rectangle-asked}
-use Rattle.text.specs.Asked.{Asks, answer, led-by}
+use Rattle.text.specs.Asked.{Asks, told-path, told, tells, led-by}
 use Rattle.text.proofs.Stores.{sets-lead}
 
 no : {A : Type 0} → _≡_ {A = ℕ} 0 1 → A
@@ -95,18 +95,18 @@ path-read closed line list after k e a = go (behind line) refl e
     go (refuse n) p q = no (cc)
     go (ok zs) p q =
         let h : k ≡ 0 + length zs = cc in
-        record { is = ap (Path closed) (omega arith); list-after = a ∙ ap (sets list 0) (behind-leading line zs p) ∙ sets-lead zs list }
+        record { is = ap (told-path closed) (omega arith); list-after = a ∙ ap (sets list 0) (behind-leading line zs p) ∙ sets-lead zs list }
 
 -- ---- the rectangle
-pub rectangle-none : (t : Try (List ℤ)) → counts.Unreadable ≡ counted 0 t → Unreadable ≡ answer (rectangle-asked t)
+pub rectangle-none : (t : Try (List ℤ)) → counts.Unreadable ≡ counted 0 t → told Unreadable ≡ tells (rectangle-asked t)
 rectangle-none (refuse k) e = refl
 rectangle-none (ok zs) e = no (cc)
 
-pub rectangle-other : (t : Try (List ℤ)) (k : ℕ) → Count k ≡ counted 0 t → (k ≡ 4 → ⊥) → Unreadable ≡ answer (rectangle-asked t)
+pub rectangle-other : (t : Try (List ℤ)) (k : ℕ) → Count k ≡ counted 0 t → (k ≡ 4 → ⊥) → told Unreadable ≡ tells (rectangle-asked t)
 rectangle-other (refuse n) k e h = refl
 rectangle-other (ok zs) k e h = let g : k ≡ 0 + length zs = cc in go zs (λ q. h (omega arith))
   where
-    go : (zs : List ℤ) → (length zs ≡ 4 → ⊥) → Unreadable ≡ answer (rectangle-of zs)
+    go : (zs : List ℤ) → (length zs ≡ 4 → ⊥) → told Unreadable ≡ tells (rectangle-of zs)
     go [] h = refl
     go (l ∷ []) h = refl
     go (l ∷ t ∷ []) h = refl
@@ -118,11 +118,11 @@ abbrev pub zeros : List ℤ
 zeros = pos 0 ∷ pos 0 ∷ pos 0 ∷ pos 0 ∷ []
 
 pub rectangle-read : (line : List ℕ) (k : ℕ) (four : List ℤ) → Count k ≡ counted 0 (behind line) → k ≡ 4 → four ≡ sets zeros 0 (leading-behind line)
-    → Rectangle (rect (getD four 0 (pos 0)) (getD four 1 (pos 0)) (getD four 2 (pos 0)) (getD four 3 (pos 0))) ≡ answer (rectangle-asked (behind line))
+    → told (Rectangle (rect (getD four 0 (pos 0)) (getD four 1 (pos 0)) (getD four 2 (pos 0)) (getD four 3 (pos 0)))) ≡ tells (rectangle-asked (behind line))
 rectangle-read line k four e h a = go (behind line) refl e
   where
     all : (zs : List ℤ) → length zs ≡ 4 → four ≡ sets zeros 0 zs
-        → Rectangle (rect (getD four 0 (pos 0)) (getD four 1 (pos 0)) (getD four 2 (pos 0)) (getD four 3 (pos 0))) ≡ answer (rectangle-of zs)
+        → told (Rectangle (rect (getD four 0 (pos 0)) (getD four 1 (pos 0)) (getD four 2 (pos 0)) (getD four 3 (pos 0)))) ≡ tells (rectangle-of zs)
     all [] h a = absurd (omega arith)
     all (l ∷ []) h a = absurd (omega arith)
     all (l ∷ t ∷ []) h a = absurd (omega arith)
@@ -131,7 +131,7 @@ rectangle-read line k four e h a = go (behind line) refl e
     all (l ∷ t ∷ r ∷ b ∷ x ∷ more) h a = absurd (omega arith)
 
     go : (t : Try (List ℤ)) → behind line ≡ t → Count k ≡ counted 0 t
-        → Rectangle (rect (getD four 0 (pos 0)) (getD four 1 (pos 0)) (getD four 2 (pos 0)) (getD four 3 (pos 0))) ≡ answer (rectangle-asked t)
+        → told (Rectangle (rect (getD four 0 (pos 0)) (getD four 1 (pos 0)) (getD four 2 (pos 0)) (getD four 3 (pos 0)))) ≡ tells (rectangle-asked t)
     go (refuse n) p q = no (cc)
     go (ok zs) p q = let g : k ≡ 0 + length zs = cc in all zs (omega arith) (a ∙ ap (sets zeros 0) (behind-leading line zs p))
 
@@ -228,17 +228,17 @@ module _ (letter : ℕ) (t : Try (List ℤ)) where
 pub nothing-asked : {q : Request} (list : List ℤ) → q ≡ unreadable → Asks q list Unreadable list
 nothing-asked list e = subst (λ (q : Request). Asks q list Unreadable list) (sym e) (record { is = refl; list-after = kept list })
 
-pub rectangle-asks : (t : Try (List ℤ)) (list : List ℤ) → Asks (rectangle-asked t) list (answer (rectangle-asked t)) list
-rectangle-asks (refuse n) list = record { is = refl; list-after = kept list }
-rectangle-asks (ok zs) list = go zs
+pub rectangle-asks : (t : Try (List ℤ)) (list : List ℤ) {r : Answer} → told r ≡ tells (rectangle-asked t) → Asks (rectangle-asked t) list r list
+rectangle-asks (refuse n) list e = record { is = e; list-after = kept list }
+rectangle-asks (ok zs) list {r} e = go zs e
   where
-    go : (zs : List ℤ) → Asks (rectangle-of zs) list (answer (rectangle-of zs)) list
-    go [] = record { is = refl; list-after = kept list }
-    go (l ∷ []) = record { is = refl; list-after = kept list }
-    go (l ∷ t ∷ []) = record { is = refl; list-after = kept list }
-    go (l ∷ t ∷ r ∷ []) = record { is = refl; list-after = kept list }
-    go (l ∷ t ∷ r ∷ b ∷ []) = record { is = refl; list-after = kept list }
-    go (l ∷ t ∷ r ∷ b ∷ x ∷ more) = record { is = refl; list-after = kept list }
+    go : (zs : List ℤ) → told r ≡ tells (rectangle-of zs) → Asks (rectangle-of zs) list r list
+    go [] e = record { is = e; list-after = kept list }
+    go (l ∷ []) e = record { is = e; list-after = kept list }
+    go (l ∷ t ∷ []) e = record { is = e; list-after = kept list }
+    go (l ∷ t ∷ r ∷ []) e = record { is = e; list-after = kept list }
+    go (l ∷ t ∷ r ∷ b ∷ []) e = record { is = e; list-after = kept list }
+    go (l ∷ t ∷ r ∷ b ∷ x ∷ more) e = record { is = e; list-after = kept list }
 
 -- ---- the line's ways
 asks-by : {q p : Request} {list after : List ℤ} {r : Answer} → q ≡ p → Asks p list r after → Asks q list r after
@@ -248,10 +248,8 @@ module _ {first : Bool} (line : List ℕ) (list : List ℤ) (h : 0 < length line
   request-as : (t : Bool) → first ≡ t → request first line ≡ asked t (getD line 0 0) (behind line)
   request-as t e = request-is first line h g ∙ ap (λ (t : Bool). asked t (getD line 0 0) (behind line)) e
 
-  pub line-rectangle : {r : Answer} → first ≡ true → getD line 0 0 ≡ 82 → r ≡ answer (rectangle-asked (behind line)) → Asks (request first line) list r list
-  line-rectangle e l q =
-      asks-by (request-as true e ∙ asked-rectangle _ (behind line) l)
-      (subst (λ (r : Answer). Asks (rectangle-asked (behind line)) list r list) (sym q) (rectangle-asks (behind line) list))
+  pub line-rectangle : {r : Answer} → first ≡ true → getD line 0 0 ≡ 82 → told r ≡ tells (rectangle-asked (behind line)) → Asks (request first line) list r list
+  line-rectangle e l q = asks-by (request-as true e ∙ asked-rectangle _ (behind line) l) (rectangle-asks (behind line) list q)
 
   pub line-no-rectangle : first ≡ true → (getD line 0 0 ≡ 82 → ⊥) → Asks (request first line) list Unreadable list
   line-no-rectangle e l = nothing-asked list (request-as true e ∙ asked-no-rectangle _ (behind line) l)

@@ -3,7 +3,7 @@ ghost use mathlib.Core.Path.{_≡_};
 ghost use Prim.Native.Nat.{_<_};
 ghost use lib.ListN.{length};
 ghost use Rattle.text.specs.Scanning.{behind, path-asked, rectangle-asked};
-ghost use Rattle.text.specs.Asked.{Asks, answer, request};
+ghost use Rattle.text.specs.Asked.{Asks, told, tells, request};
 use crate::fields::Numbers;
 use crate::fields::count_behind;
 use crate::fields::store_behind;
@@ -18,7 +18,7 @@ pub enum Request {
 
 fn read_rectangle(line: &[u8]) -> Request
     requires { ⌜ 0 < length (now line) ⌝ }
-    ensures { λ r. ⌜ r ≡ answer (rectangle-asked (behind (now (line .entry)))) ⌝ }
+    ensures { λ r. ⌜ told r ≡ tells (rectangle-asked (behind (now (line .entry)))) ⌝ }
 {
     let n = count_behind(line);
     let Numbers::Count(k) = n else {

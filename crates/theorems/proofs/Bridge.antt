@@ -11,10 +11,11 @@ use Rattle.integers.specs.Tests.{eqZ, ltZ-sub, ltZ-sub′}
 use Rattle.rounding.specs.Coordinate.{zeroF, oneF}
 use Rattle.rounding.proofs.Inside.{not-eq-zero}
 use Rattle.plane.specs.declared.point.Point64.{Point64}
-use Rattle.plane.specs.declared.crossing.Crossing.{Crossing}
 use Rattle.plane.specs.declared.crossing.Crossing.the-variants.{Nothing, At, Along}
+use Rattle.plane.specs.declared.crossing.Meeting.{Meeting}
+use Rattle.plane.specs.declared.crossing.Meeting.the-variants.{Apart, Met}
 use Rattle.plane.specs.Limit.{Limited, AllLimited, LimitedRect}
-use Rattle.plane.specs.Segment.{determinant, fraction, workingOf, crossingOf, settledOf}
+use Rattle.plane.specs.Segment.{determinant, fraction, workingOf, crossingOf, settledOf, intersection}
 use Rattle.theorems.proofs.Crossed.{determinant-is}
 use Rattle.plane.specs.declared.rect.Rect64.{Rect64}
 use Rattle.plane.specs.declared.location.Location.{Location}
@@ -46,15 +47,15 @@ same-is false true = refl
 same-is false false = refl
 
 -- what the definitions answer for a hit; f: the answer in floats
-abbrev answer : Crossing → Hit → Crossing
-answer f none = Nothing
-answer f (known e) = At e
+abbrev answer : Meeting → Hit → Meeting
+answer f none = Apart
+answer f (known e) = Met e
 answer f proper = f
 
-at-end-is : (f : Crossing) (p a b : Point64) → at-end p a b ≡ answer f (known? (on p a b) p)
+at-end-is : (f : Meeting) (p a b : Point64) → at-end p a b ≡ answer f (known? (on p a b) p)
 unfolding at-end
 at-end-is f p a b =
-    (λ i. cond ends (At p) (cond level (cond (same-is (ltZ (a .x) (p .x)) (ltZ (p .x) (b .x)) i) (At p) Nothing) (cond (same-is (ltZ (a .y) (p .y)) (ltZ (p .y) (b .y)) i) (At p) Nothing)))
+    (λ i. cond ends (Met p) (cond level (cond (same-is (ltZ (a .x) (p .x)) (ltZ (p .x) (b .x)) i) (Met p) Apart) (cond (same-is (ltZ (a .y) (p .y)) (ltZ (p .y) (b .y)) i) (Met p) Apart)))
     ∙ all ends level (same (ltZ (a .x) (p .x)) (ltZ (p .x) (b .x))) (same (ltZ (a .y) (p .y)) (ltZ (p .y) (b .y)))
   where
     ends : Bool
@@ -63,32 +64,32 @@ at-end-is f p a b =
     level : Bool
     level = eqZ (a .y) (b .y)
 
-    all : (c h x y : Bool) → cond c (At p) (cond h (cond x (At p) Nothing) (cond y (At p) Nothing)) ≡ answer f (known? (cond c true (cond h x y)) p)
+    all : (c h x y : Bool) → cond c (Met p) (cond h (cond x (Met p) Apart) (cond y (Met p) Apart)) ≡ answer f (known? (cond c true (cond h x y)) p)
     all true h x y = refl
     all false true true y = refl
     all false true false y = refl
     all false false x true = refl
     all false false x false = refl
 
-segment-is : (p1 p2 p3 p4 : Point64) → get-segment-intersection p1 p2 p3 p4 ≡ answer (crossingOf (workingOf p1 p2 p3 p4) p1 p2) (segment p1 p2 p3 p4)
+segment-is : (p1 p2 p3 p4 : Point64) → get-segment-intersection p1 p2 p3 p4 ≡ answer (intersection p1 p2 p3 p4) (segment p1 p2 p3 p4)
 unfolding get-segment-intersection
 segment-is p1 p2 p3 p4 =
-    (λ i. cond (eqZ (sign-is p1 p3 p4 i) (pos 0)) (cond (eqZ (sign-is p2 p3 p4 i) (pos 0)) Nothing (at-end-is f p1 p3 p4 i))
+    (λ i. cond (eqZ (sign-is p1 p3 p4 i) (pos 0)) (cond (eqZ (sign-is p2 p3 p4 i) (pos 0)) Apart (at-end-is f p1 p3 p4 i))
     (cond (eqZ (sign-is p2 p3 p4 i) (pos 0)) (at-end-is f p2 p3 p4 i)
-    (cond (same-is (ltZ (pos 0) (cross-product-sign p1 p3 p4)) (ltZ (pos 0) (cross-product-sign p2 p3 p4)) i) Nothing
+    (cond (same-is (ltZ (pos 0) (cross-product-sign p1 p3 p4)) (ltZ (pos 0) (cross-product-sign p2 p3 p4)) i) Apart
     (cond (eqZ (sign-is p3 p1 p2 i) (pos 0)) (at-end-is f p3 p1 p2 i)
     (cond (eqZ (sign-is p4 p1 p2 i) (pos 0)) (at-end-is f p4 p1 p2 i)
-    (cond (same-is (ltZ (pos 0) (cross-product-sign p3 p1 p2)) (ltZ (pos 0) (cross-product-sign p4 p1 p2)) i) Nothing f))))))
-    ∙ (λ i. cond (zero? (cross p1 p3 p4)) (cond (zero? (cross p2 p3 p4)) Nothing (answer f h1))
+    (cond (same-is (ltZ (pos 0) (cross-product-sign p3 p1 p2)) (ltZ (pos 0) (cross-product-sign p4 p1 p2)) i) Apart f))))))
+    ∙ (λ i. cond (zero? (cross p1 p3 p4)) (cond (zero? (cross p2 p3 p4)) Apart (answer f h1))
     (cond (zero? (cross p2 p3 p4)) (answer f h2)
-    (cond (same (ltZ (pos 0) (sign-is p1 p3 p4 i)) (ltZ (pos 0) (sign-is p2 p3 p4 i))) Nothing
+    (cond (same (ltZ (pos 0) (sign-is p1 p3 p4 i)) (ltZ (pos 0) (sign-is p2 p3 p4 i))) Apart
     (cond (zero? (cross p3 p1 p2)) (answer f h3)
     (cond (zero? (cross p4 p1 p2)) (answer f h4)
-    (cond (same (ltZ (pos 0) (sign-is p3 p1 p2 i)) (ltZ (pos 0) (sign-is p4 p1 p2 i))) Nothing f))))))
+    (cond (same (ltZ (pos 0) (sign-is p3 p1 p2 i)) (ltZ (pos 0) (sign-is p4 p1 p2 i))) Apart f))))))
     ∙ all (zero? (cross p1 p3 p4)) (zero? (cross p2 p3 p4)) (same (up? (cross p1 p3 p4)) (up? (cross p2 p3 p4))) (zero? (cross p3 p1 p2)) (zero? (cross p4 p1 p2)) (same (up? (cross p3 p1 p2)) (up? (cross p4 p1 p2)))
   where
-    f : Crossing
-    f = crossingOf (workingOf p1 p2 p3 p4) p1 p2
+    f : Meeting
+    f = intersection p1 p2 p3 p4
 
     h1 : Hit
     h1 = known? (on p1 p3 p4) p1
@@ -102,7 +103,7 @@ segment-is p1 p2 p3 p4 =
     h4 : Hit
     h4 = known? (on p4 p1 p2) p4
 
-    all : (a b c d e g : Bool) → cond a (cond b Nothing (answer f h1)) (cond b (answer f h2) (cond c Nothing (cond d (answer f h3) (cond e (answer f h4) (cond g Nothing f)))))
+    all : (a b c d e g : Bool) → cond a (cond b Apart (answer f h1)) (cond b (answer f h2) (cond c Apart (cond d (answer f h3) (cond e (answer f h4) (cond g Apart f)))))
         ≡ answer f (cond a (cond b none h1) (cond b h2 (cond c none (cond d h3 (cond e h4 (cond g none proper))))))
     all true true c d e g = refl
     all true false c d e g = refl
@@ -114,14 +115,13 @@ segment-is p1 p2 p3 p4 =
     all false false false false false false = refl
 
 -- ---- a crossing in floats is always found
-abbrev pub at : Crossing → Point64
-at Nothing = origin
-at (At e) = e
-at (Along t) = origin
+abbrev pub at : Meeting → Point64
+at Apart = origin
+at (Met e) = e
 
 -- the crossing in floats
 abbrev pub floats : Calc
-floats p q a b = at (settledOf (crossingOf (workingOf p q a b) p q) (workingOf p q a b))
+floats p q a b = at (intersection p q a b)
 
 non-size : (z : ℤ) → NonZero z → 0 < natAbs z
 non-size (pos zero) (inl h) = absurd (<ℤ-irrefl h)
@@ -130,8 +130,8 @@ non-size (pos (suc n)) h = suc-le-suc zero-le
 non-size (negsuc n) h = suc-le-suc zero-le
 
 finds : (s : Location) (p q a b : Point64) → AllLimited p q a b → NonZero ((q .y -ℤ p .y) *ℤ (b .x -ℤ a .x) -ℤ (b .y -ℤ a .y) *ℤ (q .x -ℤ p .x))
-    → met s (settledOf (crossingOf (workingOf p q a b) p q) (workingOf p q a b)) ≡ Found (floats p q a b) s
-unfolding crossingOf workingOf
+    → met s (intersection p q a b) ≡ Found (floats p q a b) s
+unfolding intersection crossingOf workingOf
 finds s p q a b l h = go (eq (determinant p q a b) zeroF) (le (fraction p q a b) zeroF) (le oneF (fraction p q a b)) (not-eq-zero (determinant p q a b) _ (determinant-is p q a b l) (non-size _ h))
   where
     go : (z c d : Bool) → z ≡ false → met s (settledOf (cond z Nothing (cond c (At p) (cond d (At q) (Along (fraction p q a b))))) (workingOf p q a b))
@@ -158,17 +158,17 @@ module _ (r : Rect64) (lr : LimitedRect r) (k : Proper r) (p q : Point64) (lp : 
   corners onRight = record { start = lp; end = lq; edge = record { across = lr .right; down = lr .top }; far = record { across = lr .right; down = lr .bottom } }
   corners onBottom = record { start = lp; end = lq; edge = record { across = lr .right; down = lr .bottom }; far = record { across = lr .left; down = lr .bottom } }
 
-  met-is : (s : Side) (h : Hit) → edge r s p q ≡ h → met (loc s) (settledOf (answer (crossingOf (workingOf p q (from r s) (to r s)) p q) h) (workingOf p q (from r s) (to r s))) ≡ hit s h
+  met-is : (s : Side) (h : Hit) → edge r s p q ≡ h → met (loc s) (answer (intersection p q (from r s) (to r s)) h) ≡ hit s h
   met-is s none e = refl
   met-is s (known x) e = refl
   met-is s proper e = finds (loc s) p q (from r s) (to r s) (corners s) (det-non r k s p q e)
 
   pub edge-is : (s : Side) → edge-intersection r (loc s) p q ≡ hit s (edge r s p q)
   unfolding edge-intersection
-  edge-is onLeft = ap (λ (c : Crossing). met Left (settledOf c (workingOf p q (from r onLeft) (to r onLeft)))) (segment-is p q (from r onLeft) (to r onLeft)) ∙ met-is onLeft (edge r onLeft p q) refl
-  edge-is onTop = ap (λ (c : Crossing). met Top (settledOf c (workingOf p q (from r onTop) (to r onTop)))) (segment-is p q (from r onTop) (to r onTop)) ∙ met-is onTop (edge r onTop p q) refl
-  edge-is onRight = ap (λ (c : Crossing). met Right (settledOf c (workingOf p q (from r onRight) (to r onRight)))) (segment-is p q (from r onRight) (to r onRight)) ∙ met-is onRight (edge r onRight p q) refl
-  edge-is onBottom = ap (λ (c : Crossing). met Bottom (settledOf c (workingOf p q (from r onBottom) (to r onBottom)))) (segment-is p q (from r onBottom) (to r onBottom)) ∙ met-is onBottom (edge r onBottom p q) refl
+  edge-is onLeft = ap (met Left) (segment-is p q (from r onLeft) (to r onLeft)) ∙ met-is onLeft (edge r onLeft p q) refl
+  edge-is onTop = ap (met Top) (segment-is p q (from r onTop) (to r onTop)) ∙ met-is onTop (edge r onTop p q) refl
+  edge-is onRight = ap (met Right) (segment-is p q (from r onRight) (to r onRight)) ∙ met-is onRight (edge r onRight p q) refl
+  edge-is onBottom = ap (met Bottom) (segment-is p q (from r onBottom) (to r onBottom)) ∙ met-is onBottom (edge r onBottom p q) refl
 
   try-is : (s : Side) (h : Hit) (rest : Finding) → (hit s h or-else told rest) ≡ told (cond (hit? h) (found s h) rest)
   try-is s none rest = refl

@@ -13,6 +13,7 @@ use Rattle.rounding.proofs.Inside.{not-eq-zero, rounded-above-zero, rounded-bel
 use Rattle.plane.specs.declared.point.Point64.{Point64}
 use Rattle.plane.specs.declared.crossing.Crossing.{Crossing}
 use Rattle.plane.specs.declared.crossing.Crossing.the-variants.{Nothing, At, Along}
+use Rattle.plane.specs.declared.crossing.Meeting.the-variants.{Met}
 use Rattle.plane.specs.Limit.{AllLimited}
 use Rattle.plane.specs.Segment.{determinant, numerator, fraction, workingOf, crossingOf, pointAt, settledOf, intersection}
 use Rattle.plane.specs.Found.{Found, NearCrossing}
@@ -76,7 +77,7 @@ module _ (a b c d : Point64) (h : AllLimited a b c d) where
     crossed-at = record {
       point = point;
       is =
-          ap (λ (k : Crossing). settledOf k (workingOf a b c d)) (crossing-is ∙ ap Along fraction-is) ∙ ap At point-is;
+          ap (λ (k : Crossing). settledOf k (workingOf a b c d)) (crossing-is ∙ ap Along fraction-is) ∙ ap Met point-is;
       near-x = coordinate-near (a .x) (b .x) (natAbs p) (natAbs q) (h .start .across) (h .end .across) L;
       near-y = coordinate-near (a .y) (b .y) (natAbs p) (natAbs q) (h .start .down) (h .end .down) L;
     }

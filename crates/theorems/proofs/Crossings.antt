@@ -16,10 +16,9 @@ use Rattle.rounding.proofs.Exact.{crosses-lt, none, left-product}
 use Rattle.rounding.proofs.Edge.{crosses-of-signs}
 use Rattle.rounding.proofs.Along.{between-ends}
 use Rattle.plane.specs.declared.point.Point64.{Point64}
-use Rattle.plane.specs.declared.crossing.Crossing.{Crossing}
-use Rattle.plane.specs.declared.crossing.Working.{Working}
+use Rattle.plane.specs.declared.crossing.Meeting.{Meeting}
 use Rattle.plane.specs.Limit.{AllLimited}
-use Rattle.plane.specs.Segment.{workingOf, settledOf, intersection}
+use Rattle.plane.specs.Segment.{intersection}
 use Rattle.theorems.proofs.Crossed.{near-crossing}
 use Rattle.plane.specs.declared.location.Location.{Location}
 use Rattle.plane.specs.declared.crossing.Search.the-variants.{Missed, Found}
@@ -30,8 +29,8 @@ use Rattle.theorems.proofs.Tests.{never}
 use Rattle.theorems.proofs.CrossingSigns.{sgn-zero, sgn-facts, differ, NearBy, apart, at-start, at-finish, crosses-between, Ends, ordered, along-edge, sgn-facts′, differ-back, unlike-plain, unlike-first}
 
 -- ---- what is found, case by case
-module _ (w : Working) (s : Location) (q : Point64) (t : Location) where
-  chain : {W : Type 0} (b : Bool) (x y : Crossing) → (b ≡ true → met s (settledOf x w) ≡ Found q t → W) → (b ≡ false → met s (settledOf y w) ≡ Found q t → W) → met s (settledOf (cond b x y) w) ≡ Found q t → W
+module _ (s : Location) (q : Point64) (t : Location) where
+  chain : {W : Type 0} (b : Bool) (x y : Meeting) → (b ≡ true → met s x ≡ Found q t → W) → (b ≡ false → met s y ≡ Found q t → W) → met s (cond b x y) ≡ Found q t → W
   chain true x y h k e = h refl e
   chain false x y h k e = k refl e
 
@@ -42,7 +41,7 @@ module _ (w : Working) (s : Location) (q : Point64) (t : Location) where
   same p e = cc
 
   -- an end of one on the other: the end itself
-  end-is : (p a b : Point64) → met s (settledOf (at-end p a b) w) ≡ Found q t → q ≡ p
+  end-is : (p a b : Point64) → met s (at-end p a b) ≡ Found q t → q ≡ p
   unfolding at-end
   end-is p a b =
       chain (same-point p a || same-point p b) _ _ (λ _ e. same p e)
@@ -106,14 +105,14 @@ module _ (a b c d : Point64) (lo hi : ℤ) (e : d .x ≡ c .x) (ends : Ends (c .
       omega arith
 
   -- an end of the segment on the edge
-  touch : (w : Working) (s : Location) (q : Point64) (t : Location) (p : Point64) → ((lo ≤ℤ p .y) → (p .y ≤ℤ hi) → ByUpright p) → met s (settledOf (at-end p c d) w) ≡ Found q t → Got c d q (ByUpright q)
+  touch : (s : Location) (q : Point64) (t : Location) (p : Point64) → ((lo ≤ℤ p .y) → (p .y ≤ℤ hi) → ByUpright p) → met s (at-end p c d) ≡ Found q t → Got c d q (ByUpright q)
   unfolding at-end
-  touch w s q t p f =
-      chain w s q t (same-point p c || same-point p d) _ _ (λ b m. go (one-of p c d b) (same w s q t p m))
-      (λ _. chain w s q t (is-horizontal c d) _ _ (λ b _. absurd (tall (sym (eqZ-true {a = c .y} {b = d .y} b))))
-      (λ _. chain w s q t (Bool·beq (ltZ (c .y) (p .y)) (ltZ (p .y) (d .y))) _ _
-      (λ b m. let g = along-edge (p .y) (c .y) (d .y) lo hi l ends b in got-near (subst ByUpright (sym (same w s q t p m)) (f (g .0) (g .1))))
-      (λ _ m. nothing w s q t m)))
+  touch s q t p f =
+      chain s q t (same-point p c || same-point p d) _ _ (λ b m. go (one-of p c d b) (same s q t p m))
+      (λ _. chain s q t (is-horizontal c d) _ _ (λ b _. absurd (tall (sym (eqZ-true {a = c .y} {b = d .y} b))))
+      (λ _. chain s q t (Bool·beq (ltZ (c .y) (p .y)) (ltZ (p .y) (d .y))) _ _
+      (λ b m. let g = along-edge (p .y) (c .y) (d .y) lo hi l ends b in got-near (subst ByUpright (sym (same s q t p m)) (f (g .0) (g .1))))
+      (λ _ m. nothing s q t m)))
     where
       go : (p ≡ c) ⊎ (p ≡ d) → q ≡ p → Got c d q (ByUpright q)
       go (inl u) v = got-from (v ∙ u)
@@ -135,26 +134,25 @@ module _ (a b c d : Point64) (lo hi : ℤ) (e : d .x ≡ c .x) (ends : Ends (c .
       let B = ordered (exact (a .y) (b .y) (natAbs (a .x -ℤ c .x)) (natAbs (a .x -ℤ b .x))) (c .y) (d .y) lo hi (natAbs (a .x -ℤ b .x)) l ends
       (between-ends (a .x) (a .y) (b .x) (b .y) (c .x) (c .y) (d .y) K (v3 .0) (v4 .0) (differ-back _ _ (isNegative ((a .x -ℤ c .x) *ℤ (b .y -ℤ a .y) -ℤ (a .y -ℤ c .y) *ℤ (b .x -ℤ a .x))) (isNegative ((a .x -ℤ c .x) *ℤ (b .y -ℤ a .y) -ℤ (a .y -ℤ d .y) *ℤ (b .x -ℤ a .x))) n34 (v3 .1) (v4 .1))) in
       let f = near-crossing a b c d lim .upright e (apart (d .y) (c .y) tall) K in
-      let p : q ≡ f .point = same (workingOf a b c d) s q t (f .point) (subst (λ (k : Crossing). met s k ≡ Found q t) (f .is) m) in
+      let p : q ≡ f .point = same s q t (f .point) (subst (λ (k : Meeting). met s k ≡ Found q t) (f .is) m) in
       subst ByUpright (sym p) (record {
         crossed = record { extends = lt-of-le-of-lt zero-le (crosses-lt (a .x) (c .x) (b .x) K); crosses = crosses-between (a .x) (c .x) (b .x) K; not-before = B .0; not-behind = B .1 };
         near-across = f .near-x;
         near-along = f .near-y;
       })
 
-  pub upright-got : (s : Location) (q : Point64) (t : Location) → met s (settledOf (get-segment-intersection a b c d) (workingOf a b c d)) ≡ Found q t → Got c d q (ByUpright q)
-  unfolding get-segment-intersection intersection
+  pub upright-got : (s : Location) (q : Point64) (t : Location) → met s (get-segment-intersection a b c d) ≡ Found q t → Got c d q (ByUpright q)
+  unfolding get-segment-intersection
   upright-got s q t =
-      let w = workingOf a b c d in
-      chain w s q t (eqZ (cross-product-sign a c d) (pos 0)) _ _
-      (λ z1. chain w s q t (eqZ (cross-product-sign b c d) (pos 0)) _ _ (λ _ m. nothing w s q t m)
-      (λ z2. touch w s q t a (at-start (a .x) (a .y) (b .x) (b .y) (c .x) lo hi (on-line a z1) (off-line b z2))))
-      (λ z1. chain w s q t (eqZ (cross-product-sign b c d) (pos 0)) _ _
-      (λ z2. touch w s q t b (at-finish (a .x) (a .y) (b .x) (b .y) (c .x) lo hi (on-line b z2) (off-line a z1)))
-      (λ z2. chain w s q t (Bool·beq (ltZ (pos 0) (cross-product-sign a c d)) (ltZ (pos 0) (cross-product-sign b c d))) _ _ (λ _ m. nothing w s q t m)
-      (λ n12. chain w s q t (eqZ (cross-product-sign c a b) (pos 0)) _ _ (λ _ m. got-from (end-is w s q t c a b m))
-      (λ z3. chain w s q t (eqZ (cross-product-sign d a b) (pos 0)) _ _ (λ _ m. got-to (end-is w s q t d a b m))
-      (λ z4. chain w s q t (Bool·beq (ltZ (pos 0) (cross-product-sign c a b)) (ltZ (pos 0) (cross-product-sign d a b))) _ _ (λ _ m. nothing w s q t m)
+      chain s q t (eqZ (cross-product-sign a c d) (pos 0)) _ _
+      (λ z1. chain s q t (eqZ (cross-product-sign b c d) (pos 0)) _ _ (λ _ m. nothing s q t m)
+      (λ z2. touch s q t a (at-start (a .x) (a .y) (b .x) (b .y) (c .x) lo hi (on-line a z1) (off-line b z2))))
+      (λ z1. chain s q t (eqZ (cross-product-sign b c d) (pos 0)) _ _
+      (λ z2. touch s q t b (at-finish (a .x) (a .y) (b .x) (b .y) (c .x) lo hi (on-line b z2) (off-line a z1)))
+      (λ z2. chain s q t (Bool·beq (ltZ (pos 0) (cross-product-sign a c d)) (ltZ (pos 0) (cross-product-sign b c d))) _ _ (λ _ m. nothing s q t m)
+      (λ n12. chain s q t (eqZ (cross-product-sign c a b) (pos 0)) _ _ (λ _ m. got-from (end-is s q t c a b m))
+      (λ z3. chain s q t (eqZ (cross-product-sign d a b) (pos 0)) _ _ (λ _ m. got-to (end-is s q t d a b m))
+      (λ z4. chain s q t (Bool·beq (ltZ (pos 0) (cross-product-sign c a b)) (ltZ (pos 0) (cross-product-sign d a b))) _ _ (λ _ m. nothing s q t m)
       (λ n34 m. got-near (passing s q t z1 z2 n12 z3 z4 n34 m)))))))
 
 -- ---- a level edge
@@ -192,14 +190,14 @@ module _ (a b c d : Point64) (lo hi : ℤ) (e : d .y ≡ c .y) (ends : Ends (c .
       let k = level-value p h .0 in
       omega arith
 
-  level-touch : (w : Working) (s : Location) (q : Point64) (t : Location) (p : Point64) → ((lo ≤ℤ p .x) → (p .x ≤ℤ hi) → ByLevel p) → met s (settledOf (at-end p c d) w) ≡ Found q t → Got c d q (ByLevel q)
+  level-touch : (s : Location) (q : Point64) (t : Location) (p : Point64) → ((lo ≤ℤ p .x) → (p .x ≤ℤ hi) → ByLevel p) → met s (at-end p c d) ≡ Found q t → Got c d q (ByLevel q)
   unfolding at-end
-  level-touch w s q t p f =
-      chain w s q t (same-point p c || same-point p d) _ _ (λ b m. go (one-of p c d b) (same w s q t p m))
-      (λ _. chain w s q t (is-horizontal c d) _ _
-      (λ _. chain w s q t (Bool·beq (ltZ (c .x) (p .x)) (ltZ (p .x) (d .x))) _ _
-      (λ b m. let g = along-edge (p .x) (c .x) (d .x) lo hi l ends b in got-near (subst ByLevel (sym (same w s q t p m)) (f (g .0) (g .1))))
-      (λ _ m. nothing w s q t m))
+  level-touch s q t p f =
+      chain s q t (same-point p c || same-point p d) _ _ (λ b m. go (one-of p c d b) (same s q t p m))
+      (λ _. chain s q t (is-horizontal c d) _ _
+      (λ _. chain s q t (Bool·beq (ltZ (c .x) (p .x)) (ltZ (p .x) (d .x))) _ _
+      (λ b m. let g = along-edge (p .x) (c .x) (d .x) lo hi l ends b in got-near (subst ByLevel (sym (same s q t p m)) (f (g .0) (g .1))))
+      (λ _ m. nothing s q t m))
       (λ b _. absurd (eqZ-false {a = c .y} {b = d .y} b (sym e))))
     where
       go : (p ≡ c) ⊎ (p ≡ d) → q ≡ p → Got c d q (ByLevel q)
@@ -222,24 +220,23 @@ module _ (a b c d : Point64) (lo hi : ℤ) (e : d .y ≡ c .y) (ends : Ends (c .
       let B = ordered (exact (a .x) (b .x) (natAbs (a .y -ℤ c .y)) (natAbs (a .y -ℤ b .y))) (c .x) (d .x) lo hi (natAbs (a .y -ℤ b .y)) l ends
       (between-ends (a .y) (a .x) (b .y) (b .x) (c .y) (c .x) (d .x) K (v3 .0) (v4 .0) (unlike-plain _ _ _ _ n34 (v3 .1) (v4 .1))) in
       let f = near-crossing a b c d lim .level e (apart (d .x) (c .x) wide) K in
-      let p : q ≡ f .point = same (workingOf a b c d) s q t (f .point) (subst (λ (k : Crossing). met s k ≡ Found q t) (f .is) m) in
+      let p : q ≡ f .point = same s q t (f .point) (subst (λ (k : Meeting). met s k ≡ Found q t) (f .is) m) in
       subst ByLevel (sym p) (record {
         crossed = record { extends = lt-of-le-of-lt zero-le (crosses-lt (a .y) (c .y) (b .y) K); crosses = crosses-between (a .y) (c .y) (b .y) K; not-before = B .0; not-behind = B .1 };
         near-across = f .near-y;
         near-along = f .near-x;
       })
 
-  pub level-got : (s : Location) (q : Point64) (t : Location) → met s (settledOf (get-segment-intersection a b c d) (workingOf a b c d)) ≡ Found q t → Got c d q (ByLevel q)
-  unfolding get-segment-intersection intersection
+  pub level-got : (s : Location) (q : Point64) (t : Location) → met s (get-segment-intersection a b c d) ≡ Found q t → Got c d q (ByLevel q)
+  unfolding get-segment-intersection
   level-got s q t =
-      let w = workingOf a b c d in
-      chain w s q t (eqZ (cross-product-sign a c d) (pos 0)) _ _
-      (λ z1. chain w s q t (eqZ (cross-product-sign b c d) (pos 0)) _ _ (λ _ m. nothing w s q t m)
-      (λ z2. level-touch w s q t a (at-start (a .y) (a .x) (b .y) (b .x) (c .y) lo hi (on-level a z1) (off-level b z2))))
-      (λ z1. chain w s q t (eqZ (cross-product-sign b c d) (pos 0)) _ _
-      (λ z2. level-touch w s q t b (at-finish (a .y) (a .x) (b .y) (b .x) (c .y) lo hi (on-level b z2) (off-level a z1)))
-      (λ z2. chain w s q t (Bool·beq (ltZ (pos 0) (cross-product-sign a c d)) (ltZ (pos 0) (cross-product-sign b c d))) _ _ (λ _ m. nothing w s q t m)
-      (λ n12. chain w s q t (eqZ (cross-product-sign c a b) (pos 0)) _ _ (λ _ m. got-from (end-is w s q t c a b m))
-      (λ z3. chain w s q t (eqZ (cross-product-sign d a b) (pos 0)) _ _ (λ _ m. got-to (end-is w s q t d a b m))
-      (λ z4. chain w s q t (Bool·beq (ltZ (pos 0) (cross-product-sign c a b)) (ltZ (pos 0) (cross-product-sign d a b))) _ _ (λ _ m. nothing w s q t m)
+      chain s q t (eqZ (cross-product-sign a c d) (pos 0)) _ _
+      (λ z1. chain s q t (eqZ (cross-product-sign b c d) (pos 0)) _ _ (λ _ m. nothing s q t m)
+      (λ z2. level-touch s q t a (at-start (a .y) (a .x) (b .y) (b .x) (c .y) lo hi (on-level a z1) (off-level b z2))))
+      (λ z1. chain s q t (eqZ (cross-product-sign b c d) (pos 0)) _ _
+      (λ z2. level-touch s q t b (at-finish (a .y) (a .x) (b .y) (b .x) (c .y) lo hi (on-level b z2) (off-level a z1)))
+      (λ z2. chain s q t (Bool·beq (ltZ (pos 0) (cross-product-sign a c d)) (ltZ (pos 0) (cross-product-sign b c d))) _ _ (λ _ m. nothing s q t m)
+      (λ n12. chain s q t (eqZ (cross-product-sign c a b) (pos 0)) _ _ (λ _ m. got-from (end-is s q t c a b m))
+      (λ z3. chain s q t (eqZ (cross-product-sign d a b) (pos 0)) _ _ (λ _ m. got-to (end-is s q t d a b m))
+      (λ z4. chain s q t (Bool·beq (ltZ (pos 0) (cross-product-sign c a b)) (ltZ (pos 0) (cross-product-sign d a b))) _ _ (λ _ m. nothing s q t m)
       (λ n34 m. got-near (level-passing s q t z1 z2 n12 z3 z4 n34 m)))))))

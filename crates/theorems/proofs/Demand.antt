@@ -256,7 +256,7 @@ module _ (r : Rect64) (coords : List ℤ) (hr : T (rect-in-limit r)) (hc : T (al
       go true e = either (AllPaths (Both false r (points-of coords))) (is-empty r) _ _ (λ _. held tt) (λ f. let z : _≡_ {A = ℕ} 0 1 = cc in absurd (omega arith))
       go false e = holds-map (paths-map (both false e)) (open-sources full r (points-of coords) (searches false e))
 
-  -- the first and the third part of `Demand3`
+  -- sources and distance, of either kind
   pub closed-sourced : (full : ℕ → Bool) (A : ℕ) (paths : List (List Point64)) (turns : ℕ) → execute full A r (points-of coords) ≡ ok (paths, turns) → Sourced true r (points-of coords) paths
   closed-sourced full A paths turns e =
       sourced true r (points-of coords) paths (holds-at (paths, turns) (subst (Holds (KeptPaths (Both true r (points-of coords)))) e (closed-both full A)))

@@ -10,8 +10,8 @@ use lib.Signed.{leZ, ltZ, _<ℤ_}
 use Rattle.integers.specs.Order.{zint}
 use Rattle.integers.specs.Tests.{eqZ, eqZ-true, ltZ-true, le-leZ}
 use Rattle.plane.specs.declared.point.Point64.{Point64}
-use Rattle.plane.specs.declared.crossing.Crossing.{Crossing}
-use Rattle.plane.specs.declared.crossing.Crossing.the-variants.{Nothing, At, Along}
+use Rattle.plane.specs.declared.crossing.Meeting.{Meeting}
+use Rattle.plane.specs.declared.crossing.Meeting.the-variants.{Apart, Met}
 use Rattle.plane.specs.declared.rect.Rect64.{Rect64}
 use Rattle.plane.specs.declared.location.Location.{Location}
 use Rattle.plane.specs.declared.location.Location.the-variants.{Left, Top, Right, Bottom, Inside}
@@ -21,7 +21,6 @@ use Rattle.plane.specs.declared.location.Spot.{Spot}
 use Rattle.plane.specs.Points.{pt-at, same-point}
 use Rattle.plane.specs.Locations.{same-location, lower, upper, get-adjacent-location, is-inside}
 use Rattle.plane.specs.Rectangle.{get-location, mid-point, as-path, beyond, beyond-or-on}
-use Rattle.plane.specs.Segment.{workingOf, settledOf}
 use Rattle.plane.specs.Intersection.{edge-from, edge-to, get-segment-intersection, met, edge-intersection, side-intersection, get-intersection}
 use Rattle.plane.specs.Signs.{is-clockwise-dir}
 use Rattle.reference.specs.Walk.{Walk, add, push-start-loc, add-corner-prev-curr, add-corners, push-start-locs, next-side, State, Pass, remain-outside, enter, pass-to, pass-through, leave, cross-boundary, pt-before}
@@ -39,15 +38,14 @@ pub clash : {W : Type 0} (b : Bool) → b ≡ true → b ≡ false → W
 clash b p q = let z : _≡_ {A = ℕ} 0 1 = cc in absurd (omega arith)
 
 -- ---- a search finds a side
-met-side : (s : Location) (c : Crossing) (q : Point64) (t : Location) → is-inside s ≡ false → met s c ≡ Found q t → is-inside t ≡ false
-met-side s Nothing q t h e = let z : _≡_ {A = ℕ} 0 1 = cc in absurd (omega arith)
-met-side s (At p) q t h e = let z : s ≡ t = cc in subst (λ (l : Location). is-inside l ≡ false) z h
-met-side s (Along x) q t h e = let z : _≡_ {A = ℕ} 0 1 = cc in absurd (omega arith)
+met-side : (s : Location) (c : Meeting) (q : Point64) (t : Location) → is-inside s ≡ false → met s c ≡ Found q t → is-inside t ≡ false
+met-side s Apart q t h e = let z : _≡_ {A = ℕ} 0 1 = cc in absurd (omega arith)
+met-side s (Met p) q t h e = let z : s ≡ t = cc in subst (λ (l : Location). is-inside l ≡ false) z h
 
 module _ (r : Rect64) (a b : Point64) (q : Point64) (t : Location) where
   edge-side : (s : Location) → is-inside s ≡ false → edge-intersection r s a b ≡ Found q t → is-inside t ≡ false
   unfolding edge-intersection
-  edge-side s h e = met-side s (settledOf (get-segment-intersection a b (pt-at (as-path r) (edge-from s)) (pt-at (as-path r) (edge-to s))) (workingOf a b (pt-at (as-path r) (edge-from s)) (pt-at (as-path r) (edge-to s)))) q t h e
+  edge-side s h e = met-side s (get-segment-intersection a b (pt-at (as-path r) (edge-from s)) (pt-at (as-path r) (edge-to s))) q t h e
 
   side-side : (s : Location) → is-inside s ≡ false → is-inside (lower s) ≡ false → is-inside (upper s) ≡ false → side-intersection r s a b ≡ Found q t → is-inside t ≡ false
   unfolding side-intersection

@@ -26,6 +26,8 @@ use Rattle.plane.specs.Intersection.{get-intersection}
 use Rattle.plane.specs.Signs.{is-clockwise-dir}
 use Rattle.plane.specs.Polygon.{path1-contains-path2}
 use Rattle.reference.specs.Walk.{Walk, nothing-yet, unlimited, add, add-all, push-start-loc, add-corner-prev-curr, add-corner-loc, add-corners, push-start-locs, State, Pass, Walked, remain-outside, enter, pass-to, pass-through, leave, cross-boundary, passes, last-off, add-round, retrace, close-outline, surround, after-while, walk-from, walk-closed}
+use Rattle.theorems.specs.Outline.{Outlined, OutlineDrawn}
+use Rattle.theorems.proofs.Unlimited.{outline-is}
 use Rattle.theorems.proofs.Holds.{Holds, held, All, all-at}
 use Rattle.theorems.proofs.Demand.{points-limited, not-empty-order}
 use Rattle.theorems.proofs.GeoPlane.{loc, Proper}
@@ -323,15 +325,11 @@ closed-never-ninth full rect coords hr hc he e =
     no m (fine h) e = let z : _≡_ {A = ℕ} 0 9 = ap number e in omega arith
 
 -- and with room for all, it is not refused at all: each closed path has its walked outline
-pub record Drawn (m : Try Walked) : Type 0 where
-  pub walked : Walked
-  pub is : m ≡ ok walked
-
-pub outline-drawn : (rect : Rect64) (coords : List ℤ) → T (rect-in-limit rect) → T (all-in-limit coords) → is-empty rect ≡ false → Drawn (walk-closed unlimited rect (points-of coords))
+pub outline-drawn : OutlineDrawn
 outline-drawn rect coords hr hc he =
     let o = not-empty-order rect he in
-    yes-so _ (closed-room unlimited rect (rect-limited rect hr) (record { wide = o .0; high = o .1 }) (points-of coords) (points-limited coords hc))
+    drawn _ refl (closed-room unlimited rect (rect-limited rect hr) (record { wide = o .0; high = o .1 }) (points-of coords) (points-limited coords hc))
   where
-    yes-so : (m : Try Walked) → Room unlimited Any m → Drawn m
-    yes-so m (want n e) = absurd (never e refl)
-    yes-so m (fine {a} h) = record { walked = a; is = refl }
+    drawn : (m : Try Walked) → walk-closed unlimited rect (points-of coords) ≡ m → Room unlimited Any m → Outlined rect (points-of coords)
+    drawn m e (want n f) = absurd (never f refl)
+    drawn m e (fine {a} h) = record { walked = a; is-walk = e; outline = outline-is rect (points-of coords) a e }

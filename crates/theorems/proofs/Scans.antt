@@ -3,7 +3,8 @@ use mathlib.Core.Path.{_≡_, refl, sym, ap, _∙_, subst}
 use mathlib.Core.Bool.{Bool, true, false, cond, not, _&&_, _||_, Bool·beq}
 use mathlib.Core.Logic.{_⊎_, inl, inr}
 use mathlib.Core.List.{List}
-use Prim.Native.Nat.{ℕ, zero, suc, _+_, _*_, _<_, _≤_}
+use Prim.Native.Nat.{ℕ, zero, suc, _+_, _*_, _<_, _≤_, zero-le}
+use native.Mathlib.Nat.{mod-lt}
 use native.Mathlib.Omega.{arith}
 use lib.ListN.{length}
 use lib.Dec.{eqb, ltb, leb, ltb→lt, leb→le, eqb→eq}
@@ -17,8 +18,8 @@ use Rattle.plane.specs.declared.location.PointInPolygonResult.{PointInPolygonRe
 use Rattle.plane.specs.declared.location.PointInPolygonResult.the-variants.{IsOn}
 use Rattle.plane.specs.Points.{pt-at}
 use Rattle.plane.specs.Signs.{cross-product-sign}
-use Rattle.plane.specs.Polygon.{Scan, ScanStep, on-edge, stop, again, first-off, skipped, before-idx, at-vertex, scan-pass, scan-answer, scan-loop}
-use Rattle.theorems.specs.Bounds.{FirstOffEnds, SkippedEnds, ScanEnds}
+use Rattle.plane.specs.Polygon.{Scan, ScanStep, on-edge, stop, again, first-off, skipped, before-idx, at-vertex, scan-pass, scan-answer, scan-loop, scan-start}
+use Rattle.theorems.specs.Bounds.{Ends, Stops, ScanStops, FirstOffEnds, SkippedEnds, ScanEnds}
 use Rattle.theorems.proofs.Ends.{more-of}
 use Rattle.theorems.proofs.Tests.{never}
 
@@ -57,6 +58,15 @@ module _ (pt : Point64) (polygon : List Point64) where
           at-or (inr q) = k q l
       go true false e l k = absurd (omega arith)
       go false c e l k = absurd (omega arith)
+
+  pub first-in : (left i : ℕ) → i ≤ n → first-off pt polygon left i ≤ n
+  first-in zero i h = h
+  first-in (suc left) i h = go (ltb i n) refl (row? i) (first-in left (i + 1))
+    where
+      go : (b : Bool) → ltb i n ≡ b → (c : Bool) → (i + 1 ≤ n → first-off pt polygon left (i + 1) ≤ n) → cond (b && c) (first-off pt polygon left (i + 1)) i ≤ n
+      go true e true k = k (let l = ltb→lt i n (T-of e) in omega arith)
+      go true e false k = h
+      go false e c k = h
 
   -- ---- the skipping
   skips-in : (a w : Bool) (first left i : ℕ) → i ≤ n → (i ≤ skipped pt polygon a w first left i) × (skipped pt polygon a w first left i ≤ n)
@@ -165,33 +175,8 @@ module _ (pt : Point64) (polygon : List Point64) where
             on true q = let z : i ≡ n = eqb→eq i n (T-of q) in let ne = not-eq (s .curr-idx) n e in (g, omega (arith, h .1, h .0))
             on false q = let ne = not-eq i n q in vertex m (s .is-above) false (s .val) i (λ _. (omega arith, omega (arith, h .1)))
 
-    loops : (m : ℕ) (above : Bool) (s : Scan) → Fuel m (s .curr-idx) (s .wrap-to-start) → scan-loop pt polygon first (suc m) above s ≡ scan-loop pt polygon first m above s
-    unfolding scan-loop
-    loops zero above s h = absurd (none (s .wrap-to-start) h)
-      where
-        none : (w : Bool) → Fuel 0 (s .curr-idx) w → ⊥
-        none true h = omega (arith, h .0, h .1)
-        none false h = omega (arith, h .0, h .1)
-    loops (suc m) above s h = go (scan-pass pt polygon first s) (subst (Then m) (sym (body-is s)) (pass m s (eqb (s .curr-idx) n) (s .wrap-to-start) refl h)) (λ t g. loops m above t g)
-      where
-        go : (z : ScanStep) → Then m z → ((t : Scan) → Fuel m (t .curr-idx) (t .wrap-to-start) → scan-loop pt polygon first (suc m) above t ≡ scan-loop pt polygon first m above t)
-            → _≡_ {A = PointInPolygonResult} (elim z [ on-edge ↦ IsOn | stop t ↦ scan-answer pt polygon above t | again t ↦ scan-loop pt polygon first (suc m) above t ])
-            (elim z [ on-edge ↦ IsOn | stop t ↦ scan-answer pt polygon above t | again t ↦ scan-loop pt polygon first m above t ])
-        go on-edge f k = refl
-        go (stop t) f k = refl
-        go (again t) f k = k t f
-
-    -- and it does end: at a vertex where it stops, or on an edge, before its passes are used up
-    abbrev pub Lands : (Scan → Type 0) → ScanStep → Type 0
-    Lands P on-edge = Unit {0}
-    Lands P (stop t) = Unit {0}
-    Lands P (again t) = P t
-
-    abbrev pub Stops : ℕ → Scan → Type 0
-    Stops zero s = ⊥
-    Stops (suc m) s = Lands (λ t. Stops m t) (scan-pass pt polygon first s)
-
-    pub stops : (m : ℕ) (s : Scan) → Fuel m (s .curr-idx) (s .wrap-to-start) → Stops m s
+    -- it ends at a vertex where it stops, or on an edge, before its passes are used up
+    pub stops : (m : ℕ) (s : Scan) → Fuel m (s .curr-idx) (s .wrap-to-start) → Stops pt polygon first m s
     stops zero s h = none (s .wrap-to-start) h
       where
         none : (w : Bool) → Fuel 0 (s .curr-idx) w → ⊥
@@ -199,10 +184,23 @@ module _ (pt : Point64) (polygon : List Point64) where
         none false h = omega (arith, h .0, h .1)
     stops (suc m) s h = go (scan-pass pt polygon first s) (subst (Then m) (sym (body-is s)) (pass m s (eqb (s .curr-idx) n) (s .wrap-to-start) refl h)) (λ t g. stops m t g)
       where
-        go : (z : ScanStep) → Then m z → ((t : Scan) → Fuel m (t .curr-idx) (t .wrap-to-start) → Stops m t) → Lands (λ t. Stops m t) z
+        go : (z : ScanStep) → Then m z → ((t : Scan) → Fuel m (t .curr-idx) (t .wrap-to-start) → Stops pt polygon first m t) → Ends (Stops pt polygon first m) z
         go on-edge f k = tt
         go (stop t) f k = tt
         go (again t) f k = k t f
+
+  -- a loop that has ended is not changed by more passes
+  loops : (first m : ℕ) (above : Bool) (s : Scan) → Stops pt polygon first m s → scan-loop pt polygon first (suc m) above s ≡ scan-loop pt polygon first m above s
+  unfolding scan-loop
+  loops first zero above s h = absurd h
+  loops first (suc m) above s h = go (scan-pass pt polygon first s) h (λ t g. loops first m above t g)
+    where
+      go : (z : ScanStep) → Ends (Stops pt polygon first m) z → ((t : Scan) → Stops pt polygon first m t → scan-loop pt polygon first (suc m) above t ≡ scan-loop pt polygon first m above t)
+          → _≡_ {A = PointInPolygonResult} (elim z [ on-edge ↦ IsOn | stop t ↦ scan-answer pt polygon above t | again t ↦ scan-loop pt polygon first (suc m) above t ])
+          (elim z [ on-edge ↦ IsOn | stop t ↦ scan-answer pt polygon above t | again t ↦ scan-loop pt polygon first m above t ])
+      go on-edge f k = refl
+      go (stop t) f k = refl
+      go (again t) f k = k t f
 
   -- ---- the two `while`s
   first-more : (m i : ℕ) → n ≤ m + i → first-off pt polygon (suc m) i ≡ first-off pt polygon m i
@@ -232,13 +230,22 @@ module _ (pt : Point64) (polygon : List Point64) where
       go true e k = refl
       go false e k = ap (λ (x : ℕ). cond (((not w || ltb i first)) && same) x i) (k (let ne = not-eq i n e in omega arith))
 
+-- from a vertex, within any number of passes that is large enough
+from-vertex : (pt : Point64) (polygon : List Point64) (s : Scan) (m : ℕ) → first-off pt polygon (length polygon) 0 < length polygon → s .curr-idx < length polygon → s .wrap-to-start ≡ false → 2 * length polygon + 2 ≤ m
+    → Stops pt polygon (first-off pt polygon (length polygon) 0) m s
+from-vertex pt polygon s m fi ci w h =
+    let first = first-off pt polygon (length polygon) 0 in
+    let rows : (j : ℕ) → j < first → row? pt polygon j ≡ true = λ j l. before-first pt polygon (length polygon) 0 j (omega arith) l in
+    stops pt polygon first fi rows m s (subst (Fuel pt polygon first fi rows m (s .curr-idx)) (sym w) (omega arith, omega arith))
+
 -- the Rust's loop ends
-pub scan-stops : (pt : Point64) (polygon : List Point64) (s : Scan) (fi : first-off pt polygon (length polygon) 0 < length polygon) → s .curr-idx < length polygon → s .wrap-to-start ≡ false
-    → Stops pt polygon (first-off pt polygon (length polygon) 0) fi (λ j l. before-first pt polygon (length polygon) 0 j (omega arith) l) (2 * length polygon + 2) s
-scan-stops pt polygon s fi ci w =
-    let rows : (j : ℕ) → j < first-off pt polygon (length polygon) 0 → row? pt polygon j ≡ true = λ j l. before-first pt polygon (length polygon) 0 j (omega arith) l in
-    stops pt polygon (first-off pt polygon (length polygon) 0) fi rows (2 * length polygon + 2) s
-    (subst (λ (b : Bool). Fuel pt polygon (first-off pt polygon (length polygon) 0) fi rows (2 * length polygon + 2) (s .curr-idx) b) (sym w) (omega arith, omega arith))
+pub scan-stops : ScanStops
+scan-stops pt polygon e =
+    let first = first-off pt polygon (length polygon) 0 in
+    let ne = not-eq first (length polygon) e in
+    let le = first-in pt polygon (length polygon) 0 zero-le in
+    let fi : first < length polygon = omega arith in
+    from-vertex pt polygon (scan-start pt polygon first) (2 * length polygon + 2) fi (mod-lt (first + 1) (omega arith)) refl (omega arith)
 
 pub first-off-ends : FirstOffEnds
 first-off-ends pt polygon = more-of (λ (k : ℕ). first-off pt polygon k 0) (length polygon) (λ m h. first-more pt polygon m 0 (omega arith))
@@ -249,6 +256,4 @@ skipped-ends pt polygon a w first i l = more-of (λ (k : ℕ). skipped pt polygo
 pub scan-ends : ScanEnds
 scan-ends pt polygon s above fi ci w =
     let first = first-off pt polygon (length polygon) 0 in
-    more-of (λ (k : ℕ). scan-loop pt polygon first k above s) (2 * length polygon + 2)
-    (λ m h. loops pt polygon first fi (λ j l. before-first pt polygon (length polygon) 0 j (omega arith) l) m above s
-    (subst (λ (b : Bool). Fuel pt polygon first fi (λ j l. before-first pt polygon (length polygon) 0 j (omega arith) l) m (s .curr-idx) b) (sym w) (omega arith, omega arith)))
+    more-of (λ (k : ℕ). scan-loop pt polygon first k above s) (2 * length polygon + 2) (λ m h. loops pt polygon first m above s (from-vertex pt polygon s m fi ci w (omega arith)))

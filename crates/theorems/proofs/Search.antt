@@ -22,6 +22,7 @@ use Rattle.plane.specs.Basics.{if_then_else_}
 use Rattle.plane.specs.Locations.{is-inside, lower, upper}
 use Rattle.plane.specs.Intersection.{edge-intersection, _or-else_, side-intersection, get-intersection}
 use Rattle.theorems.specs.Demand.{ExactCrossing, AtMostOneOutside, onward, corner-point, crossing}
+use Rattle.theorems.specs.Search.{Tried, own, low, up, any, Finds, SearchFinds, SearchExact}
 use Rattle.theorems.proofs.Demand.{search-hits, not-empty-order, outside}
 use Rattle.theorems.proofs.Sources as sources
 use Rattle.theorems.proofs.Sources.{at-corner, at-crossing}
@@ -46,10 +47,10 @@ module _ (r : Rect64) (lr : LimitedRect r) (not-empty : is-empty r ≡ false) (a
       near (at-crossing s x n) = let o = not-empty-order r not-empty in outside r (o .0) (o .1) {closed = false} {path = a ∷ b ∷ []} q (crossing a b (onward 0 (omega arith)) s x n)
 
 -- a number at most one past numbers within the limit
-reach : (low z high : ℤ) → natAbs low ≤ 33554432 → natAbs high ≤ 33554432 → (low -ℤ pos 1) ≤ℤ z → z ≤ℤ (high +ℤ pos 1) → natAbs z ≤ 33554433
-reach low z high h k u v =
-    ⊎-elim (λ e. omega (zint, abs-pn low, abs-pn z, abs-pn high, sub-pn low (pos 1), add-pn high (pos 1)))
-    (λ e. omega (zint, abs-pn low, abs-pn z, abs-pn high, sub-pn low (pos 1), add-pn high (pos 1))) (parts z)
+reach : (a z b : ℤ) → natAbs a ≤ 33554432 → natAbs b ≤ 33554432 → (a -ℤ pos 1) ≤ℤ z → z ≤ℤ (b +ℤ pos 1) → natAbs z ≤ 33554433
+reach a z b h k u v =
+    ⊎-elim (λ e. omega (zint, abs-pn a, abs-pn z, abs-pn b, sub-pn a (pos 1), add-pn b (pos 1)))
+    (λ e. omega (zint, abs-pn a, abs-pn z, abs-pn b, sub-pn a (pos 1), add-pn b (pos 1))) (parts z)
 
 -- so its coordinates are at most one past the limit
 pub outside-across : {r : Rect64} {q : Point64} → LimitedRect r → AtMostOneOutside r q → natAbs (q .x) ≤ 33554433
@@ -59,18 +60,6 @@ pub outside-down : {r : Rect64} {q : Point64} → LimitedRect r → AtMostOneOut
 outside-down {r} {q} lr o = reach (r .top) (q .y) (r .bottom) (lr .top) (lr .bottom) (o .top) (o .bottom)
 
 -- ---- where it finds something
--- the sides that a search from p tries: its own, the lower neighbour if p is beyond that, the upper neighbour; from inside all four
-pub data Tried (r : Rect64) (p : Point64) (loc side : Location) : Type 0 where
-  own : is-inside loc ≡ false → side ≡ loc → Tried r p loc side
-  low : is-inside loc ≡ false → beyond r (lower loc) p ≡ true → side ≡ lower loc → Tried r p loc side
-  up : is-inside loc ≡ false → side ≡ upper loc → Tried r p loc side
-  any : is-inside loc ≡ true → is-inside side ≡ false → Tried r p loc side
-
--- what a find says: a side that was tried, and an exact crossing with it
-pub record Finds (r : Rect64) (p q : Point64) (loc side : Location) : Type 0 where
-  pub tried : Tried r p loc side
-  pub crossing : ExactCrossing r side p q
-
 clash : {W : Type 0} {q : Point64} {s : Location} {x : Search} → x ≡ Missed → x ≡ Found q s → W
 clash e f = let z : _≡_ {A = ℕ} 0 1 = cc in absurd (omega arith)
 
@@ -157,14 +146,13 @@ module _ (r : Rect64) (lr : LimitedRect r) (not-empty : is-empty r ≡ false) (p
         (first-found (if beyond r (lower s) p then edge-intersection r (lower s) p q else Missed) (edge-intersection r (upper s) p q) f))
         (first-found (edge-intersection r s p q) _ e)
 
-  -- a side that is tried and has an exact crossing is not missed
-  pub search-finds : (loc side : Location) → Tried r p loc side → ExactCrossing r side p q → get-intersection r p q loc ≡ Missed → ⊥
+  not-missed : (loc side : Location) → Tried r p loc side → ExactCrossing r side p q → get-intersection r p q loc ≡ Missed → ⊥
   unfolding get-intersection
-  search-finds Left side w x e = side-finds Left refl refl refl side w x e
-  search-finds Top side w x e = side-finds Top refl refl refl side w x e
-  search-finds Right side w x e = side-finds Right refl refl refl side w x e
-  search-finds Bottom side w x e = side-finds Bottom refl refl refl side w x e
-  search-finds Inside side w x e =
+  not-missed Left side w x e = side-finds Left refl refl refl side w x e
+  not-missed Top side w x e = side-finds Top refl refl refl side w x e
+  not-missed Right side w x e = side-finds Right refl refl refl side w x e
+  not-missed Bottom side w x e = side-finds Bottom refl refl refl side w x e
+  not-missed Inside side w x e =
       let a = first-missed (edge-intersection r Left p q) _ e in
       let b = first-missed (edge-intersection r Top p q) _ (a .1) in
       let d = first-missed (edge-intersection r Right p q) (edge-intersection r Bottom p q) (b .1) in
@@ -177,16 +165,23 @@ module _ (r : Rect64) (lr : LimitedRect r) (not-empty : is-empty r ≡ false) (p
       go Bottom x a b c d = edge-missed Bottom d x
       go Inside x a b c d = never refl (x .is-side)
 
-  -- and what is found is on a side that was tried, which has an exact crossing with the segment
-  pub search-exact : (loc : Location) {z : Point64} {side : Location} → get-intersection r p q loc ≡ Found z side → Finds r p q loc side
+  told : (loc : Location) {z : Point64} {side : Location} → get-intersection r p q loc ≡ Found z side → Finds r p q loc side
   unfolding get-intersection
-  search-exact Left e = side-told Left refl refl refl e
-  search-exact Top e = side-told Top refl refl refl e
-  search-exact Right e = side-told Right refl refl refl e
-  search-exact Bottom e = side-told Bottom refl refl refl e
-  search-exact Inside e =
+  told Left e = side-told Left refl refl refl e
+  told Top e = side-told Top refl refl refl e
+  told Right e = side-told Right refl refl refl e
+  told Bottom e = side-told Bottom refl refl refl e
+  told Inside e =
       ⊎-elim (finds-on Left refl (any refl refl))
       (λ f. ⊎-elim (finds-on Top refl (any refl refl))
       (λ g. ⊎-elim (finds-on Right refl (any refl refl)) (finds-on Bottom refl (any refl refl)) (first-found (edge-intersection r Right p q) (edge-intersection r Bottom p q) g))
       (first-found (edge-intersection r Top p q) _ f))
       (first-found (edge-intersection r Left p q) _ e)
+
+-- a side that is tried and has an exact crossing is not missed
+pub search-finds : SearchFinds
+search-finds r p q loc side lr lp lq ne f e = not-missed r lr ne p q lp lq loc side (f .tried) (f .crossing) e
+
+-- and what is found is on a side that was tried, which has an exact crossing with the segment
+pub search-exact : SearchExact
+search-exact r p q z loc side lr lp lq ne e = told r lr ne p q lp lq loc e

@@ -1,5 +1,5 @@
 -- A walk with limited lists either runs out of room, or is the walk with unlimited ones: what a call walks is the walked outline.
-use mathlib.Core.Path.{_≡_}
+use mathlib.Core.Path.{_≡_, ap}
 use mathlib.Core.Bool.{Bool, true, false, cond, not, _&&_, _||_}
 use mathlib.Core.List.{List, [], _∷_}
 use Prim.Native.Nat.{ℕ, zero, suc, _+_, _-_}
@@ -19,6 +19,7 @@ use Rattle.plane.specs.Rectangle.{get-location, mid-point, contains-point, get-
 use Rattle.plane.specs.Intersection.{get-intersection}
 use Rattle.plane.specs.Polygon.{path1-contains-path2}
 use Rattle.reference.specs.Walk.{Walk, unlimited, nothing-yet, add, add-all, push-start-loc, Next, add-corner-prev-curr, add-corner-loc, add-corners, push-start-locs, next-inside, next-outside, next-side, get-next-location, State, Pass, Walked, remain-outside, enter, pass-to, pass-through, leave, cross-boundary, pt-before, pass-from, passes, last-off, add-round, surround, retrace, close-outline, after-while, walk-from, walk-closed, walked-outline}
+use Rattle.theorems.specs.Outline.{WalksOutline}
 
 pub data Agree {A : Type 0} : Try A → Try A → Type 0 where
   ran-out : {n : Try A} → Agree (refuse 8) n
@@ -172,11 +173,15 @@ module _ (full : ℕ → Bool) where
           (if-agree (get-location rect (pt-at path (length path - 1)) .off) (walk-from-agrees _)
           (search-agree (last-off rect path (length path - 1)) _ _ _ _ (bind-agree _ _ (add-all-agrees nothing-yet path) (λ w. agrees)) (λ p prev. walk-from-agrees _)))
 
-      -- a call that walks and is not refused walks the outline
-      pub walks-outline : (w : Walked) → walk-closed full rect path ≡ ok w → walked-outline rect path ≡ w .walk .points
-      unfolding walked-outline
-      walks-outline w e = go (walk-closed full rect path) (walk-closed unlimited rect path) e walk-agrees
-        where
-          go : (m n : Try Walked) → m ≡ ok w → Agree m n → (elim n [ refuse k ↦ [] | ok v ↦ v .walk .points ]) ≡ w .walk .points
-          go m n e ran-out = let z : _≡_ {A = ℕ} 0 1 = cc in absurd (omega arith)
-          go m n e agrees = rw (e)
+-- the walked outline is the points of the unlimited walk
+pub outline-is : (rect : Rect64) (path : List Point64) (w : Walked) → walk-closed unlimited rect path ≡ ok w → walked-outline rect path ≡ w .walk .points
+unfolding walked-outline
+outline-is rect path w e = ap {B = List Point64} (λ (m : Try Walked). elim m [ refuse n ↦ [] | ok v ↦ v .walk .points ]) e
+
+-- a call that walks and is not refused walks the outline
+pub walks-outline : WalksOutline
+walks-outline full rect path w e = outline-is rect path w (same _ _ (walk-agrees full rect path) e)
+  where
+    same : (m n : Try Walked) → Agree m n → m ≡ ok w → n ≡ ok w
+    same m n ran-out e = let z : _≡_ {A = ℕ} 0 1 = cc in absurd (omega arith)
+    same m n agrees e = e

@@ -1,10 +1,11 @@
 -- Loops of the Rust that the definitions bound by a number of passes: that the number is enough. Statements only; proofs: Ends, Corners,
--- Passes, Straightens, Drops, Scans (all twelve). That a call goes round the corners to a side only is the subject of CornerLoops, that the
--- nodes are a ring wherever it goes round them of LoopsEnd and Rings.
+-- Passes, Straightens, Drops, Scans (all thirteen). `Enough` alone also holds of a pass that repeats its state for ever. That `point_in_polygon`'s loop
+-- stops is `ScanStops` below; that the loops round the corners come to a side is the subject of CornerLoops, that those over the nodes, which are a ring
+-- wherever a call goes round them, have ended of LoopsEnd and Rings. The indexes and lists that the other loops give grow with every pass.
 use mathlib.Core.Path.{_≡_}
 use mathlib.Core.Bool.{Bool, false}
 use mathlib.Core.List.{List, [], _∷_}
-use Prim.Native.Nat.{ℕ, _+_, _*_, _<_, _≤_}
+use Prim.Native.Nat.{ℕ, zero, suc, _+_, _*_, _<_, _≤_}
 use lib.ListN.{length}
 use lib.Dec.{T, eqb}
 use lib.IntN.{ℤ}
@@ -13,7 +14,7 @@ use Rattle.plane.specs.declared.rect.Rect64.{Rect64}
 use Rattle.plane.specs.declared.location.Location.{Location}
 use Rattle.plane.specs.declared.location.Location.the-variants.{Inside}
 use Rattle.plane.specs.Basics.{none}
-use Rattle.plane.specs.Polygon.{Scan, first-off, skipped, scan-loop}
+use Rattle.plane.specs.Polygon.{Scan, ScanStep, on-edge, stop, again, first-off, skipped, scan-pass, scan-loop, scan-start, scan-passes}
 use Rattle.plane.specs.Locations.{is-inside}
 use Rattle.plane.specs.Rectangle.{is-empty}
 use Rattle.reference.specs.Walk.{Walk, nothing-yet, add-corners, push-start-locs, Next, State, passes}
@@ -27,7 +28,23 @@ use Rattle.plane.specs.Limit.{rect-in-limit, all-in-limit}
 abbrev pub Enough : {A : Type 0} → (ℕ → A) → ℕ → Type 0
 Enough loop n = (k : ℕ) → loop (n + k) ≡ loop n
 
--- `point_in_polygon`: from the vertex behind the first that is off the point's row
+-- `point_in_polygon`: a pass ends the `loop`, by its `return` or its `break`, or leaves it to the rest
+abbrev pub Ends : (Scan → Type 0) → ScanStep → Type 0
+Ends rest on-edge = Unit {0}
+Ends rest (stop t) = Unit {0}
+Ends rest (again t) = rest t
+
+-- from s, one of the first n passes ends it
+abbrev pub Stops : Point64 → List Point64 → ℕ → ℕ → Scan → Type 0
+Stops pt polygon first-idx zero s = ⊥
+Stops pt polygon first-idx (suc n) s = Ends (Stops pt polygon first-idx n) (scan-pass pt polygon first-idx s)
+
+-- where `point-in-polygon` begins it, within the passes that it counts
+abbrev pub ScanStops : Type 0
+ScanStops = (pt : Point64) (polygon : List Point64) → let first-idx = first-off pt polygon (length polygon) 0 in eqb first-idx (length polygon) ≡ false
+    → Stops pt polygon first-idx (scan-passes pt polygon) (scan-start pt polygon first-idx)
+
+-- so more passes change nothing; from any vertex
 abbrev pub ScanEnds : Type 0
 ScanEnds = (pt : Point64) (polygon : List Point64) (s : Scan) (above : Bool) → first-off pt polygon (length polygon) 0 < length polygon → s .curr-idx < length polygon → s .wrap-to-start ≡ false
     → Enough (λ n. scan-loop pt polygon (first-off pt polygon (length polygon) 0) n above s) (2 * length polygon + 2)

@@ -18,8 +18,7 @@ use Rattle.plane.specs.Locations.{same-location}
 use Rattle.plane.specs.Points.{pt-at, points-of}
 use Rattle.plane.specs.Rectangle.{as-path, is-empty, intersects, contains-rect, get-bounds-path}
 use Rattle.reference.specs.Walk.{walked-outline}
-use Rattle.reference.specs.Clip.{execute}
-use Rattle.reference.specs.Lines.{execute-lines}
+use Rattle.reference.specs.Entry.{Drawing, drawing-of}
 use Rattle.plane.specs.Limit.{all-in-limit, rect-in-limit}
 
 -- ---- signed area, doubled: the sum over neighbours, last to first included, of x × next y − next x × y
@@ -42,7 +41,7 @@ totalArea2 (p ∷ paths) = signedArea2 p +ℤ totalArea2 paths
 unfoldable pub is-walked : Rect64 → List Point64 → Bool
 is-walked rect path = not (is-empty rect) && not (ltb (length path) 3) && intersects rect (get-bounds-path path) && not (contains-rect rect (get-bounds-path path))
 
--- the returned paths' areas add up to the walked outline's
+-- the returned paths' areas add up to the walked outline's, which is what the walk puts down and no empty stand-in: Outline (`OutlineDrawn`, `WalksOutline`)
 pub record AreaKept (rect : Rect64) (path : List Point64) (paths : List (List Point64)) : Type 0 where
   pub kept : T (is-walked rect path) → totalArea2 paths ≡ signedArea2 (walked-outline rect path)
 
@@ -127,17 +126,20 @@ pub record Sourced (closed : Bool) (r : Rect64) (path : List Point64) (paths : L
   pub source : (q : List Point64) → List·Memᴰ q paths → (p : Point64) → List·Memᴰ p q → Source closed r path p
   pub close-by : (q : List Point64) → List·Memᴰ q paths → (p : Point64) → List·Memᴰ p q → AtMostOneOutside r p
 
--- ---- demand 3, of the definitions; `coords` are the path's coordinates
-pub record Demand3 (full : ℕ → Bool) (A : ℕ) (r : Rect64) (coords : List ℤ) : Type 0 where
-  pub closed-sourced : (paths : List (List Point64)) (turns : ℕ) → execute full A r (points-of coords) ≡ ok (paths, turns) → Sourced true r (points-of coords) paths
-  pub closed-area : (paths : List (List Point64)) (turns : ℕ) → execute full A r (points-of coords) ≡ ok (paths, turns) → AreaKept r (points-of coords) paths
-  pub open-sourced : (paths : List (List Point64)) → execute-lines full r (points-of coords) ≡ ok paths → Sourced false r (points-of coords) paths
+-- Demand 3 of the paths that are returned of a path: each point has its source and is at most one unit outside; of a closed path that is
+-- walked, the areas add up.
+pub record Exactness (closed : Bool) (r : Rect64) (path : List Point64) (paths : List (List Point64)) : Type 0 where
+  pub sourced : Sourced closed r path paths
+  pub area : T closed → AreaKept r path paths
 
+-- ---- demand 3, of the definitions
 -- A store is bounded where a list of 4,294,967,295 entries, the number `none`, has no room for one more. Every call's is, since W is at
 -- most 65,536. Without the bound the statement fails: a node with that number would be taken for no node.
 abbrev pub Bounded : (ℕ → Bool) → Type 0
 Bounded full = (n : ℕ) → full n ≡ false → n < none
 
--- demand 3 of every bounded store, every allowance, every rectangle and path within the coordinate limit; proved in proofs/ClosedArea.antt
-abbrev pub Demand3-holds : Type 0
-Demand3-holds = (full : ℕ → Bool) (A : ℕ) (r : Rect64) (coords : List ℤ) → Bounded full → T (rect-in-limit r) → T (all-in-limit coords) → Demand3 full A r coords
+-- of every bounded store, every allowance, every rectangle and path within the coordinate limit, closed or open; `coords` are the path's
+-- coordinates. Proved in proofs/ClosedArea.antt.
+abbrev pub Demand3 : Type 0
+Demand3 = (closed : Bool) (full : ℕ → Bool) (A : ℕ) (r : Rect64) (coords : List ℤ) (d : Drawing) → Bounded full → T (rect-in-limit r) → T (all-in-limit coords)
+    → drawing-of closed full A r (points-of coords) ≡ ok d → Exactness closed r (points-of coords) (d .0)

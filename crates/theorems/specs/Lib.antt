@@ -5,3 +5,5 @@ pub mod LoopsEnd
 pub mod CornerLoops
 pub mod Sizes
 pub mod Rings
+pub mod Outline
+pub mod Search

@@ -3,14 +3,15 @@ use mathlib.Core.Path.{_≡_, sym, subst}
 use Prim.Native.Nat.{ℕ, _≤_}
 use lib.Seq.{length-take-le}
 use Rattle.program.specs.declared.answers.Start.{Start}
+use Rattle.program.specs.Answered.{started}
 use Rattle.program.proofs.Given.{bytes-of, first-within}
 use borrow.Author.Needs.{needs}
 use Rattle.clip.proofs.main.Statement.{statement}
 use Rattle.clip.proofs.main.Tie as tie
 
 -- what is written lies within the list
-within : {r s : Start} {m : ℕ} → r ≡ s → bytes-of r ≤ m → bytes-of s ≤ m
-within {m = m} e h = subst (λ (x : Start). bytes-of x ≤ m) e h
+within : {r s : Start} {m : ℕ} → r ≡ s → bytes-of (started r) ≤ m → bytes-of (started s) ≤ m
+within {m = m} e h = subst (λ (x : Start). bytes-of (started x) ≤ m) e h
 
 slice-aggregate-take-line : tie.Need-slice-aggregate-take-line
 slice-aggregate-take-line c = search needs
@@ -22,7 +23,7 @@ array-share-prefix-line : tie.Need-array-share-prefix-line
 array-share-prefix-line c = search needs
 
 slice-aggregate-answer-first : tie.Need-slice-aggregate-answer-first
-slice-aggregate-answer-first c = let t : tie.After-take-line = search in sym (length-take-le _ _ (t .take-line .ensures))
+slice-aggregate-answer-first c = let t : tie.After-take-line = search in sym (length-take-le _ _ (t .take-line .ensures .1 .fits))
 
 answer-first-requires : tie.Need-answer-first-requires
 answer-first-requires c κs = search needs
@@ -60,6 +61,9 @@ returns c = search needs
 returns-2 : tie.Need-returns-2
 returns-2 c = search needs
 
+returns-3 : tie.Need-returns-3
+returns-3 c = search needs
+
 pub main-spec : {M : Type 1} → statement M
 main-spec =
     tie.close
@@ -79,4 +83,5 @@ main-spec =
     write-all-requires-2
     print-answers-requires
     returns
-    returns-2)
+    returns-2
+    returns-3)

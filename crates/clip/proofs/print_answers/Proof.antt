@@ -33,19 +33,22 @@ array-share-prefix-line : tie.Need-array-share-prefix-line Inv-loop μ-loop
 array-share-prefix-line c = search needs
 
 slice-aggregate-answer-line : tie.Need-slice-aggregate-answer-line Inv-loop μ-loop
-slice-aggregate-answer-line c = let t : tie.After-take-line Inv-loop μ-loop = search in sym (length-take-le _ _ (t .take-line .ensures))
+slice-aggregate-answer-line c = let t : tie.After-take-line Inv-loop μ-loop = search in sym (length-take-le _ _ (t .take-line .ensures .1 .fits))
 
 answer-line-requires : tie.Need-answer-line-requires Inv-loop μ-loop
 answer-line-requires c κs = search needs
 
 array-share-prefix-out : tie.Need-array-share-prefix-out Inv-loop μ-loop
-array-share-prefix-out c = let t : tie.After-answer-line Inv-loop μ-loop = search in gives-within (t .answer-line .ensures)
+array-share-prefix-out c = let t : tie.After-answer-line Inv-loop μ-loop = search in gives-within (t .answer-line .ensures .0)
 
 slice-aggregate-write-all : tie.Need-slice-aggregate-write-all Inv-loop μ-loop
-slice-aggregate-write-all c = let t : tie.After-answer-line Inv-loop μ-loop = search in sym (length-take-le _ _ (gives-within (t .answer-line .ensures)))
+slice-aggregate-write-all c = let t : tie.After-answer-line Inv-loop μ-loop = search in sym (length-take-le _ _ (gives-within (t .answer-line .ensures .0)))
 
 write-all-requires : tie.Need-write-all-requires Inv-loop μ-loop
 write-all-requires c κs = search needs
+
+returns-2 : tie.Need-returns-2 Inv-loop μ-loop
+returns-2 c = search needs
 
 add-number : tie.Need-add-number Inv-loop μ-loop
 add-number c = search needs
@@ -56,8 +59,8 @@ loop-less c = search needs
 loop-again : tie.Need-loop-again Inv-loop μ-loop
 loop-again c = search needs
 
-returns-2 : tie.Need-returns-2 Inv-loop μ-loop
-returns-2 c = search needs
+returns-3 : tie.Need-returns-3 Inv-loop μ-loop
+returns-3 c = search needs
 
 pub print-answers-spec : {M : Type 1} → statement M
 print-answers-spec =
@@ -76,7 +79,8 @@ print-answers-spec =
     array-share-prefix-out
     slice-aggregate-write-all
     write-all-requires
+    returns-2
     add-number
     loop-less
     loop-again
-    returns-2)
+    returns-3)

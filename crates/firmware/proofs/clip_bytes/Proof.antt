@@ -5,7 +5,7 @@ use Prim.Native.Nat.{ℕ, _/_}
 use lib.IntN.{ℤ, pos}
 use lib.ListN.{length, take, replicate, length-replicate}
 use lib.Seq.{length-take-le}
-use Rattle.firmware.proofs.Exporting.{refused-early, room-to-read, read-fits, part-read, may-send, all-exported}
+use Rattle.firmware.proofs.Exporting.{refused-early, room-to-read, read-fits, part-read, may-send, all-exported, all-returned}
 use Rattle.firmware.proofs.clip_bytes.Statement.{statement}
 use Rattle.firmware.proofs.clip_bytes.Tie as tie
 
@@ -13,7 +13,7 @@ path-refusal-requires : tie.Need-path-refusal-requires
 path-refusal-requires c κs = search needs
 
 returns : tie.Need-returns
-returns c = let s : tie.Start = search in refused-early (s .args .path .now) (s .args .closed) (s .args .rect) (s .args .coordinates .now) (s .args .lengths .now) (s .args .counts .now) (c .before .path-refusal .ensures) (c .if1 .taken)
+returns c = let s : tie.Start = search in (refused-early (s .args .path .now) (s .args .closed) (s .args .rect) (s .args .coordinates .now) (s .args .lengths .now) (s .args .counts .now) (c .before .path-refusal .ensures) (c .if1 .taken), λ z. absurd (c .if1 .taken z))
 
 slice-aggregate-read-words : tie.Need-slice-aggregate-read-words
 slice-aggregate-read-words c = search needs
@@ -53,7 +53,7 @@ send-requires c κs =
     let else1 : tie.Else1 = search in
     let p : tie.After-path-refusal = search in
     let s : tie.Start = search in
-    may-send (s .args .path .now) (sym (p .path-refusal .ensures) ∙ else1 .if1 .left) (s .args .closed) (s .args .rect) _ (replicate 512 (pos 0)) (replicate 257 0) (ap (take (length (s .args .path .now) / 4)) (w .read-words .ensures) ∙ part-read (s .args .path .now) (replicate 256 (pos 0))) (length-replicate {A = ℤ} 512 (pos 0)) (length-replicate {A = ℕ} 257 0) (k .clip .ensures)
+    may-send (s .args .path .now) (sym (p .path-refusal .ensures) ∙ else1 .if1 .left) (s .args .closed) (s .args .rect) _ (replicate 512 (pos 0)) (replicate 257 0) (ap (take (length (s .args .path .now) / 4)) (w .read-words .ensures) ∙ part-read (s .args .path .now) (replicate 256 (pos 0))) (length-replicate {A = ℤ} 512 (pos 0)) (length-replicate {A = ℕ} 257 0) (k .clip .ensures .0)
 
 same-length : tie.Need-same-length
 same-length c = search needs
@@ -71,8 +71,10 @@ returns-2 c =
     let w : tie.After-read-words = search in
     let else1 : tie.Else1 = search in
     let p : tie.After-path-refusal = search in
-    let s : tie.Start = search in
-    all-exported (s .args .path .now) (sym (p .path-refusal .ensures) ∙ else1 .if1 .left) (s .args .closed) (s .args .rect) _ (replicate 512 (pos 0)) (replicate 257 0) (ap (take (length (s .args .path .now) / 4)) (w .read-words .ensures) ∙ part-read (s .args .path .now) (replicate 256 (pos 0))) (length-replicate {A = ℤ} 512 (pos 0)) (length-replicate {A = ℕ} 257 0) (k .clip .ensures) (s .args .coordinates .now) (s .args .lengths .now) (s .args .counts .now) (d .send .ensures)
+    let s : tie.Start = search in (
+      all-exported (s .args .path .now) (sym (p .path-refusal .ensures) ∙ else1 .if1 .left) (s .args .closed) (s .args .rect) _ (replicate 512 (pos 0)) (replicate 257 0) (ap (take (length (s .args .path .now) / 4)) (w .read-words .ensures) ∙ part-read (s .args .path .now) (replicate 256 (pos 0))) (length-replicate {A = ℤ} 512 (pos 0)) (length-replicate {A = ℕ} 257 0) (k .clip .ensures .0) (s .args .coordinates .now) (s .args .lengths .now) (s .args .counts .now) (d .send .ensures),
+      all-returned (s .args .path .now) (sym (p .path-refusal .ensures) ∙ else1 .if1 .left) (s .args .closed) (s .args .rect) _ (replicate 512 (pos 0)) (replicate 257 0) (ap (take (length (s .args .path .now) / 4)) (w .read-words .ensures) ∙ part-read (s .args .path .now) (replicate 256 (pos 0))) (length-replicate {A = ℤ} 512 (pos 0)) (length-replicate {A = ℕ} 257 0) (k .clip .ensures .0) (k .clip .ensures .1) (s .args .coordinates .now) (s .args .lengths .now) (s .args .counts .now) (d .send .ensures),
+    )
 
 pub clip-bytes-spec : {M : Type 1} → statement M
 clip-bytes-spec =

@@ -1,5 +1,5 @@
 -- `handheld::clip` meets its contract. Assumes nothing.
-use Rattle.handheld.proofs.Calls.{left-closed, left-open}
+use Rattle.handheld.proofs.Calls.{promised}
 use borrow.Author.Needs.{needs}
 use Rattle.handheld.proofs.clip.Statement.{statement}
 use Rattle.handheld.proofs.clip.Tie as tie
@@ -28,7 +28,7 @@ returns c =
     let n : tie.After-new = search in
     let x : tie.After-execute = search in
     let t : tie.Then1 = search in
-    left-closed (s .args .closed) (s .args .path .now) (s .args .coordinates .now) (s .args .lengths .now) _ (n .new .ensures) (t .if1 .taken) (x .execute .ensures)
+    promised (s .args .path .now) (s .args .coordinates .now) (s .args .lengths .now) _ (t .if1 .taken) (n .new .ensures) (x .execute .ensures)
 
 new-requires-2 : tie.Need-new-requires-2
 new-requires-2 c κs = search needs
@@ -54,7 +54,8 @@ returns-2 c =
     let n : tie.After-new2 = search in
     let x : tie.After-execute2 = search in
     let t : tie.Else1 = search in
-    left-open (s .args .closed) (s .args .path .now) (s .args .coordinates .now) (s .args .lengths .now) _ (n .new2 .ensures) (t .if1 .left) (x .execute2 .ensures)
+    let k = x .execute2 .ensures in
+    promised (s .args .path .now) (s .args .coordinates .now) (s .args .lengths .now) _ (t .if1 .left) (n .new2 .ensures) (record { clips = k .clips; returned = k .returned })
 
 pub clip-spec : {M : Type 1} → statement M
 clip-spec =

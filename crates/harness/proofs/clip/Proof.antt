@@ -1,6 +1,5 @@
 -- `harness::clip` meets its contract: what either clipper promises. Assumes nothing.
 use borrow.Author.Needs.{needs}
-use Rattle.harness.proofs.Handing.{clips-closed, clips-open}
 use Rattle.harness.proofs.clip.Statement.{statement}
 use Rattle.harness.proofs.clip.Tie as tie
 
@@ -28,7 +27,7 @@ returns c =
     let i : tie.Then1 = search in
     let n : tie.After-new = search in
     let x : tie.After-execute = search in
-    clips-closed (s .args .allowance) (i .if1 .taken) (rw (n .new .ensures) at (x .execute .ensures))
+    rw (i .if1 .taken) (rw (n .new .ensures) at (x .execute .ensures))
 
 new-requires-2 : tie.Need-new-requires-2
 new-requires-2 c κs = search needs
@@ -54,7 +53,8 @@ returns-2 c =
     let i : tie.Else1 = search in
     let n : tie.After-new2 = search in
     let x : tie.After-execute2 = search in
-    clips-open (s .args .allowance) (i .if1 .left) (rw (n .new2 .ensures) at (x .execute2 .ensures))
+    let k = rw (n .new2 .ensures) at (x .execute2 .ensures) in
+    rw (i .if1 .left) (record { clips = k .clips; returned = k .returned })
 
 pub clip-spec : {M : Type 1} → statement M
 clip-spec =

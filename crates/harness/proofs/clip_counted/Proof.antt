@@ -1,7 +1,7 @@
 -- `harness::clip_counted` meets its contract: the clipper's promise, with the counts handed over or without room for them. Assumes nothing.
 use Rattle.reference.specs.Entry.{Lent}
 use Rattle.rectclip.specs.Promises.{lent}
-use Rattle.harness.proofs.Handing.{hands-counted, hands-uncounted}
+use Rattle.harness.proofs.Handing.{hands-counted, hands-uncounted, returned-counted, returned-uncounted}
 use borrow.Author.Needs.{needs}
 use Rattle.harness.proofs.clip_counted.Statement.{statement}
 use Rattle.harness.proofs.clip_counted.Tie as tie
@@ -44,8 +44,10 @@ returns : tie.Need-returns
 returns c =
     let s : tie.Start = search in
     let i : tie.Then1 = search in
-    let k : tie.After-clip = search in
-    hands-uncounted (s .args .closed) (s .args .allowance) (s .args .rect) (s .args .path .now) (all s) (s .args .counts .now) (i .if1 .taken) (k .clip .ensures) (c .uncounted .ensures)
+    let k : tie.After-clip = search in (
+      hands-uncounted (s .args .closed) (s .args .allowance) (s .args .rect) (s .args .path .now) (all s) (s .args .counts .now) (i .if1 .taken) (k .clip .ensures .clips) (c .uncounted .ensures),
+      returned-uncounted (s .args .closed) (s .args .rect) (s .args .path .now) _ _ (s .args .counts .now) (k .clip .result) (c .uncounted .ensures),
+    )
 
 clip-requires-2 : tie.Need-clip-requires-2
 clip-requires-2 c κs = search needs
@@ -73,8 +75,10 @@ returns-2 c =
     let s : tie.Start = search in
     let i : tie.Else1 = search in
     let k : tie.After-clip2 = search in
-    let h : tie.After-hand-over = search in
-    hands-counted (all s) (s .args .counts .now) _ (k .clip2 .ensures) (h .hand-over .ensures) (i .if1 .left)
+    let h : tie.After-hand-over = search in (
+      hands-counted (all s) (s .args .counts .now) _ (k .clip2 .ensures .clips) (h .hand-over .ensures) (i .if1 .left),
+      returned-counted (s .args .closed) (s .args .rect) (s .args .path .now) _ _ (s .args .counts .now) (k .clip2 .result) (k .clip2 .ensures .returned) (h .hand-over .ensures),
+    )
 
 pub clip-counted-spec : {M : Type 1} → statement M
 clip-counted-spec =

@@ -1,6 +1,7 @@
 -- `replay::replay_lines` meets its contract. Assumes nothing.
 use mathlib.Core.Path.{_≡_, sym}
 use Prim.Native.Nat.{_-_}
+use native.Mathlib.Omega.{arith}
 use lib.ListN.{length}
 use lib.Seq.{length-take-le}
 use Rattle.replay.specs.Fits.{Fits}
@@ -33,22 +34,25 @@ array-share-prefix-line : tie.Need-array-share-prefix-line Inv-loop μ-loop
 array-share-prefix-line c = search needs
 
 slice-aggregate-next : tie.Need-slice-aggregate-next Inv-loop μ-loop
-slice-aggregate-next c = let t : tie.After-take-line Inv-loop μ-loop = search in sym (length-take-le _ _ (t .take-line .ensures))
+slice-aggregate-next c = let t : tie.After-take-line Inv-loop μ-loop = search in sym (length-take-le _ _ (t .take-line .ensures .1 .fits))
 
 next-requires : tie.Need-next-requires Inv-loop μ-loop
 next-requires c κs = search needs
 
+returns-2 : tie.Need-returns-2 Inv-loop μ-loop
+returns-2 c = search needs
+
 add-number : tie.Need-add-number Inv-loop μ-loop
-add-number c = search needs
+add-number c = let t : tie.In-loop Inv-loop μ-loop = search in omega (arith, t .loop-test .taken)
 
 loop-less : tie.Need-loop-less Inv-loop μ-loop
-loop-less c = search needs
+loop-less c = let t : tie.In-loop Inv-loop μ-loop = search in omega (arith, t .loop-test .taken)
 
 loop-again : tie.Need-loop-again Inv-loop μ-loop
 loop-again c = search needs
 
-returns-2 : tie.Need-returns-2 Inv-loop μ-loop
-returns-2 c = search needs
+returns-3 : tie.Need-returns-3 Inv-loop μ-loop
+returns-3 c = search needs
 
 pub replay-lines-spec : {M : Type 1} → statement M
 replay-lines-spec =
@@ -64,7 +68,8 @@ replay-lines-spec =
     array-share-prefix-line
     slice-aggregate-next
     next-requires
+    returns-2
     add-number
     loop-less
     loop-again
-    returns-2)
+    returns-3)

@@ -1,5 +1,6 @@
 -- `program::answers::answer_first` meets its contract. Assumes nothing.
-use mathlib.Core.Path.{sym, _∙_}
+use mathlib.Core.Path.{sym, _∙_, ap}
+use Rattle.text.specs.Asked.{told}
 use Rattle.program.proofs.Given.{first-by-rectangle, first-by-path, first-by-nothing}
 use borrow.Author.Needs.{needs}
 use Rattle.program.proofs.answers.answer_first.Statement.{statement}
@@ -34,21 +35,21 @@ returns c =
     let r : tie.After-read-line = search in
     let e : tie.After-request = search in
     let w : tie.After-answer-rectangle = search in
-    first-by-rectangle (sym (e .request .given .1) ∙ r .read-line .ensures .is) (w .answer-rectangle .ensures)
+    first-by-rectangle (ap told (sym (e .request .given .1)) ∙ r .read-line .ensures .is) (w .answer-rectangle .ensures)
 
 returns-2 : tie.Need-returns-2
 returns-2 c =
     let r : tie.After-read-line = search in
     let e : tie.After-enum-told = search in
     let w : tie.After-unreadable-first = search in
-    first-by-path (sym (e .enum-told .given .1) ∙ r .read-line .ensures .is) (w .unreadable-first .ensures)
+    first-by-path (ap told (sym (e .enum-told .given .1)) ∙ r .read-line .ensures .is) (w .unreadable-first .ensures)
 
 returns-3 : tie.Need-returns-3
 returns-3 c =
     let r : tie.After-read-line = search in
     let e : tie.After-enum-told2 = search in
     let w : tie.After-unreadable-first2 = search in
-    first-by-nothing (sym (e .enum-told2 .given .1) ∙ r .read-line .ensures .is) (w .unreadable-first2 .ensures)
+    first-by-nothing (ap told (sym (e .enum-told2 .given .1)) ∙ r .read-line .ensures .is) (w .unreadable-first2 .ensures)
 
 pub answer-first-spec : {M : Type 1} → statement M
 answer-first-spec =

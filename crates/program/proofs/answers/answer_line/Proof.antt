@@ -1,7 +1,7 @@
 -- `program::answers::answer_line` meets its contract. Assumes nothing.
-use mathlib.Core.Path.{sym, _∙_}
+use mathlib.Core.Path.{sym, _∙_, ap}
 use mathlib.Core.Bool.{false}
-use Rattle.text.specs.Asked.{request}
+use Rattle.text.specs.Asked.{request, told}
 use native.Mathlib.Omega.{arith}
 use lib.IntN.{pos}
 use lib.ListN.{replicate, length-replicate}
@@ -9,6 +9,7 @@ use mir.Syntax.{w64}
 use mir.Val.{SFits}
 use mir.Facts.{toZ-ofZ}
 use Rattle.program.proofs.Given.{refused-line, answer-path, answer-rectangle, answer-nothing}
+use Rattle.program.proofs.Exact.{answer-exact}
 use borrow.Author.Needs.{needs}
 use Rattle.program.proofs.answers.answer_line.Statement.{statement}
 use Rattle.program.proofs.answers.answer_line.Tie as tie
@@ -47,7 +48,8 @@ returns c =
     let e : tie.After-request = search in
     let w : tie.After-answer-numbers = search in
     let f : SFits w64 (s .args .line) = search needs in
-    answer-path (s .args .rect) (s .args .line) (request false (s .args .bytes .now)) (replicate 2048 (pos 0)) (sym (e .request .given .1) ∙ r .read-line .ensures .is) (omega (arith, length-replicate 2048 (pos 0))) (r .read-line .ensures .list-after) (toZ-ofZ f) (w .answer-numbers .ensures)
+    let g = answer-path (s .args .rect) (s .args .line) (request false (s .args .bytes .now)) (replicate 2048 (pos 0)) (ap told (sym (e .request .given .1)) ∙ r .read-line .ensures .is) (omega (arith, length-replicate 2048 (pos 0))) (r .read-line .ensures .list-after) (toZ-ofZ f) (w .answer-numbers .ensures .0) in
+    (g, answer-exact (request false (s .args .bytes .now)) g)
 
 returns-2 : tie.Need-returns-2
 returns-2 c =
@@ -56,7 +58,8 @@ returns-2 c =
     let e : tie.After-enum-told = search in
     let w : tie.After-write-why = search in
     let f : SFits w64 (s .args .line) = search needs in
-    answer-rectangle (s .args .rect) (s .args .line) (request false (s .args .bytes .now)) (sym (e .enum-told .given .1) ∙ r .read-line .ensures .is) (refused-line 12 (search needs) (toZ-ofZ f) (w .write-why .ensures))
+    let g = answer-rectangle (s .args .rect) (s .args .line) (request false (s .args .bytes .now)) (ap told (sym (e .enum-told .given .1)) ∙ r .read-line .ensures .is) (refused-line 12 (search needs) (toZ-ofZ f) (w .write-why .ensures)) in
+    (g, answer-exact (request false (s .args .bytes .now)) g)
 
 returns-3 : tie.Need-returns-3
 returns-3 c =
@@ -65,7 +68,8 @@ returns-3 c =
     let e : tie.After-enum-told2 = search in
     let w : tie.After-write-why2 = search in
     let f : SFits w64 (s .args .line) = search needs in
-    answer-nothing (s .args .rect) (s .args .line) (request false (s .args .bytes .now)) (sym (e .enum-told2 .given .1) ∙ r .read-line .ensures .is) (refused-line 12 (search needs) (toZ-ofZ f) (w .write-why2 .ensures))
+    let g = answer-nothing (s .args .rect) (s .args .line) (request false (s .args .bytes .now)) (ap told (sym (e .enum-told2 .given .1)) ∙ r .read-line .ensures .is) (refused-line 12 (search needs) (toZ-ofZ f) (w .write-why2 .ensures)) in
+    (g, answer-exact (request false (s .args .bytes .now)) g)
 
 pub answer-line-spec : {M : Type 1} → statement M
 answer-line-spec =

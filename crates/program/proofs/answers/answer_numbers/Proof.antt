@@ -9,6 +9,7 @@ use mir.Val.{SFits}
 use mir.Facts.{toZ-ofZ}
 use Rattle.program.proofs.Given.{refused-line, path-odd, path-long, path-short, answer-as}
 use Rattle.handheld.specs.Drawn.{clipped}
+use Rattle.program.proofs.Exact.{numbers-exact}
 use borrow.Author.Needs.{needs}
 use Rattle.program.proofs.answers.answer_numbers.Statement.{statement}
 use Rattle.program.proofs.answers.answer_numbers.Tie as tie
@@ -22,7 +23,8 @@ returns c =
     let t : tie.Then1 = search in
     let w : tie.After-write-why = search in
     let f : SFits w64 (s .args .line) = search needs in
-    path-odd (s .args .rect) (s .args .line) (s .args .closed) (s .args .count) (take (s .args .count) (s .args .numbers .now)) (t .if1 .taken) (refused-line 1 (search needs) (toZ-ofZ f) (w .write-why .ensures))
+    let g = path-odd (s .args .rect) (s .args .line) (s .args .closed) (s .args .count) (take (s .args .count) (s .args .numbers .now)) (t .if1 .taken) (refused-line 1 (search needs) (toZ-ofZ f) (w .write-why .ensures)) in
+    (g, numbers-exact (s .args .count) g)
 
 write-why-requires-2 : tie.Need-write-why-requires-2
 write-why-requires-2 c κs = search needs
@@ -34,7 +36,8 @@ returns-2 c =
     let t : tie.Then2 = search in
     let w : tie.After-write-why2 = search in
     let f : SFits w64 (s .args .line) = search needs in
-    path-long (s .args .rect) (s .args .line) (s .args .closed) (s .args .count) (take (s .args .count) (s .args .numbers .now)) (e .if1 .left) (t .if2 .taken) (refused-line 5 (search needs) (toZ-ofZ f) (w .write-why2 .ensures))
+    let g = path-long (s .args .rect) (s .args .line) (s .args .closed) (s .args .count) (take (s .args .count) (s .args .numbers .now)) (e .if1 .left) (t .if2 .taken) (refused-line 5 (search needs) (toZ-ofZ f) (w .write-why2 .ensures)) in
+    (g, numbers-exact (s .args .count) g)
 
 slice-aggregate-answer-path : tie.Need-slice-aggregate-answer-path
 slice-aggregate-answer-path c =
@@ -56,7 +59,8 @@ returns-3 c =
     let t : tie.Else2 = search in
     let w : tie.After-answer-path = search in
     let f : SFits w64 (s .args .line) = search needs in
-    path-short (s .args .rect) (s .args .line) (s .args .closed) (s .args .count) (take (s .args .count) (s .args .numbers .now)) (e .if1 .left) (t .if2 .left) (answer-as (s .args .closed) (clipped (s .args .closed) (s .args .rect) (take (s .args .count) (s .args .numbers .now))) (toZ-ofZ f) (w .answer-path .ensures))
+    let g = path-short (s .args .rect) (s .args .line) (s .args .closed) (s .args .count) (take (s .args .count) (s .args .numbers .now)) (e .if1 .left) (t .if2 .left) (answer-as (s .args .closed) (clipped (s .args .closed) (s .args .rect) (take (s .args .count) (s .args .numbers .now))) (toZ-ofZ f) (w .answer-path .ensures .0)) in
+    (g, numbers-exact (s .args .count) g)
 
 pub answer-numbers-spec : {M : Type 1} → statement M
 answer-numbers-spec =

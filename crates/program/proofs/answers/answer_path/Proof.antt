@@ -4,6 +4,7 @@ use mir.Val.{SFits}
 use mir.Facts.{toZ-ofZ}
 use Rattle.program.proofs.Lines.{prints-as}
 use Rattle.program.proofs.Given.{refused-line, path-refused, path-printable, path-drawn}
+use Rattle.program.proofs.Exact.{path-exact}
 use borrow.Author.Needs.{needs}
 use Rattle.program.proofs.answers.answer_path.Statement.{statement}
 use Rattle.program.proofs.answers.answer_path.Tie as tie
@@ -40,7 +41,7 @@ write-paths-requires c κs =
     let s : tie.Start = search in
     let k : tie.After-clip = search in
     let e : tie.After-answer2 = search in
-    path-printable (s .args .closed) _ (s .args .rect) (s .args .path .now) (s .pre) (k .clip .ensures) _ (e .answer2 .given .1) (s .args .out .now) (search needs)
+    path-printable (s .args .closed) _ (s .args .rect) (s .args .path .now) (s .pre) (k .clip .ensures .0) _ (e .answer2 .given .1) (s .args .out .now) (search needs)
 
 returns : tie.Need-returns
 returns c =
@@ -49,7 +50,8 @@ returns c =
     let e : tie.After-answer = search in
     let w : tie.After-write-why = search in
     let f : SFits w64 (s .args .line) = search needs in
-    path-refused (s .args .closed) (s .args .line) (s .args .rect) (s .args .path .now) (s .pre) (k .clip .ensures) _ (e .answer .given .1) (refused-line _ (search needs) (toZ-ofZ f) (w .write-why .ensures))
+    let g = path-refused (s .args .closed) (s .args .line) (s .args .rect) (s .args .path .now) (s .pre) (k .clip .ensures .0) _ (e .answer .given .1) (refused-line _ (search needs) (toZ-ofZ f) (w .write-why .ensures)) in
+    (g, path-exact g)
 
 returns-2 : tie.Need-returns-2
 returns-2 c =
@@ -58,7 +60,8 @@ returns-2 c =
     let e : tie.After-answer2 = search in
     let w : tie.After-write-paths = search in
     let f : SFits w64 (s .args .line) = search needs in
-    path-drawn (s .args .closed) (s .args .line) (s .args .rect) (s .args .path .now) (s .pre) (k .clip .ensures) _ (e .answer2 .given .1) (s .args .out .now) (search needs) (prints-as (s .args .closed) (toZ-ofZ f) (w .write-paths .ensures))
+    let g = path-drawn (s .args .closed) (s .args .line) (s .args .rect) (s .args .path .now) (s .pre) (k .clip .ensures .0) _ (e .answer2 .given .1) (s .args .out .now) (search needs) (prints-as (s .args .closed) (toZ-ofZ f) (w .write-paths .ensures)) in
+    (g, path-exact g)
 
 pub answer-path-spec : {M : Type 1} → statement M
 answer-path-spec =

@@ -1,10 +1,9 @@
 -- `edge_intersection` meets its contract. Assumes nothing.
 use mathlib.Core.Path.{_≡_, sym, ap, _∙_}
 use Rattle.plane.specs.Intersection.{met, edge-intersection, get-segment-intersection, edge-from, edge-to}
-use Rattle.plane.specs.Segment.{workingOf, settledOf}
 use Rattle.plane.specs.Points.{pt-at}
 use Rattle.plane.specs.Rectangle.{as-path}
-use Rattle.plane.specs.declared.crossing.Crossing.{Crossing}
+use Rattle.plane.specs.declared.crossing.Meeting.{Meeting}
 use Rattle.plane.specs.declared.point.Point64.{Point64}
 use Rattle.plane.specs.declared.rect.Rect64.{Rect64}
 use Rattle.plane.specs.declared.location.Location.{Location}
@@ -13,11 +12,11 @@ use borrow.Author.Needs.{needs}
 use Rattle.rectclip.proofs.search.edge_intersection.Statement.{statement}
 use Rattle.rectclip.proofs.search.edge_intersection.Tie as tie
 
--- the crossing x with the edge from a to b, which are the side's ends
-told : (r : Rect64) (s : Location) (p p2 a b : Point64) (x : Crossing) → a ≡ pt-at (as-path r) (edge-from s) → b ≡ pt-at (as-path r) (edge-to s)
-    → x ≡ settledOf (get-segment-intersection p p2 a b) (workingOf p p2 a b) → met s x ≡ edge-intersection r s p p2
+-- where the segment and the edge meet, x, of the edge from a to b, which are the side's ends
+told : (r : Rect64) (s : Location) (p p2 a b : Point64) (x : Meeting) → a ≡ pt-at (as-path r) (edge-from s) → b ≡ pt-at (as-path r) (edge-to s)
+    → x ≡ get-segment-intersection p p2 a b → met s x ≡ edge-intersection r s p p2
 unfolding edge-intersection
-told r s p p2 a b x e f g = ap (met s) (g ∙ λ i. settledOf (get-segment-intersection p p2 (e i) (f i)) (workingOf p p2 (e i) (f i)))
+told r s p p2 a b x e f g = ap (met s) (g ∙ λ i. get-segment-intersection p p2 (e i) (f i))
 
 edge-from-requires : tie.Need-edge-from-requires
 edge-from-requires c κs = search needs
@@ -31,11 +30,8 @@ get-segment-intersection-requires c κs = let s : tie.Start = search in let a : 
 enum-told : tie.Need-enum-told
 enum-told c = search needs
 
-enum-known-crossing : tie.Need-enum-known-crossing
-enum-known-crossing c = search needs
-
-enum-known-crossing-2 : tie.Need-enum-known-crossing-2
-enum-known-crossing-2 c = search needs
+enum-known-meeting : tie.Need-enum-known-meeting
+enum-known-meeting c = search needs
 
 returns : tie.Need-returns
 returns c =
@@ -52,15 +48,7 @@ returns-2 c =
     let a : tie.After-edge-from = search in
     let b : tie.After-edge-to = search in
     let x : tie.After-get-segment-intersection = search in
-    sym (ap (met (s .args .side)) (c .before .crossing .given .1)) ∙ told _ _ _ _ _ _ _ (a .edge-from .ensures) (b .edge-to .ensures) (x .get-segment-intersection .ensures)
-
-returns-3 : tie.Need-returns-3
-returns-3 c =
-    let s : tie.Start = search in
-    let a : tie.After-edge-from = search in
-    let b : tie.After-edge-to = search in
-    let x : tie.After-get-segment-intersection = search in
-    sym (ap (met (s .args .side)) (c .before .crossing2 .given .1)) ∙ told _ _ _ _ _ _ _ (a .edge-from .ensures) (b .edge-to .ensures) (x .get-segment-intersection .ensures)
+    sym (ap (met (s .args .side)) (c .before .meeting .given .1)) ∙ told _ _ _ _ _ _ _ (a .edge-from .ensures) (b .edge-to .ensures) (x .get-segment-intersection .ensures)
 
 pub edge-intersection-spec : {M : Type 1} → statement M
 edge-intersection-spec =
@@ -70,8 +58,6 @@ edge-intersection-spec =
     edge-to-requires
     get-segment-intersection-requires
     enum-told
-    enum-known-crossing
-    enum-known-crossing-2
+    enum-known-meeting
     returns
-    returns-2
-    returns-3)
+    returns-2)

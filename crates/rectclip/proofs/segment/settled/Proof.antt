@@ -3,7 +3,7 @@ use borrow.Author.Needs.{needs}
 use mathlib.Core.Path.{sym, ap, _∙_}
 use Rattle.plane.specs.Segment.{settledOf}
 use Rattle.plane.specs.declared.crossing.Crossing.{Crossing}
-use Rattle.plane.specs.declared.crossing.Crossing.the-variants.{At}
+use Rattle.plane.specs.declared.crossing.Meeting.the-variants.{Met}
 use Rattle.rectclip.proofs.segment.settled.Statement.{statement}
 use Rattle.rectclip.proofs.segment.settled.Tie as tie
 
@@ -26,7 +26,7 @@ returns-2 : tie.Need-returns-2
 returns-2 c = sym (ap (λ (k : Crossing). settledOf k (c .before .before .before .args .w)) (c .before .c .given .1))
 
 returns-3 : tie.Need-returns-3
-returns-3 c = ap At (c .point-at .ensures) ∙ sym (ap (λ (k : Crossing). settledOf k (c .before .before .before .before .args .w)) (c .before .before .c2 .given .1))
+returns-3 c = ap Met (c .point-at .ensures) ∙ sym (ap (λ (k : Crossing). settledOf k (c .before .before .before .before .args .w)) (c .before .before .c2 .given .1))
 
 pub settled-spec : {M : Type 1} → statement M
 settled-spec =

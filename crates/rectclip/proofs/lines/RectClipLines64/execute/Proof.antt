@@ -1,8 +1,15 @@
 -- `RectClipLines64::execute` meets its promise: a call that is refused early, and one that is drawn. Assumes nothing.
-use Rattle.rectclip.proofs.Entering.{refused-early, drawable, clipped}
+use Rattle.reference.specs.Entry.{Lent}
+use Rattle.rectclip.specs.Promises.{lent}
+use Rattle.rectclip.proofs.Calling.{refused-call, drawable, drawn-call}
+use mathlib.Core.Bool.{false}
 use borrow.Author.Needs.{needs}
 use Rattle.rectclip.proofs.lines.RectClipLines64.execute.Statement.{statement}
 use Rattle.rectclip.proofs.lines.RectClipLines64.execute.Tie as tie
+
+-- the lists that are lent
+abbrev before : tie.Start → Lent
+before s = lent (s .args .coordinates .now) (s .args .lengths .now) (s .args .store .now) (s .args .work .now)
 
 admit-requires : tie.Need-admit-requires
 admit-requires c κs = search needs
@@ -18,7 +25,7 @@ draw-lines-requires c κs =
     let b : tie.After-bounds = search in
     let a : tie.After-admit = search in
     let s : tie.Start = search in
-    drawable (s .args .self .rect) (s .args .path .now) (s .args .coordinates .now) (s .args .lengths .now) (s .args .store .now) (s .args .work .now) (a .admit .result) (a .admit .ensures) _ (b .bounds .given .1)
+    drawable 0 (s .args .self .rect) (s .args .path .now) (before s) (a .admit .result) _ (b .bounds .given .1) (a .admit .ensures)
 
 clear-store-requires : tie.Need-clear-store-requires
 clear-store-requires c κs = search needs
@@ -31,7 +38,7 @@ returns c =
     let w : tie.After-why = search in
     let a : tie.After-admit = search in
     let s : tie.Start = search in
-    refused-early (s .args .self .rect) (s .args .path .now) (s .args .coordinates .now) (s .args .lengths .now) (s .args .store .now) (s .args .work .now) (a .admit .result) (a .admit .ensures) _ (w .why .given .1)
+    refused-call false 0 (s .args .self .rect) (s .args .path .now) (before s) (a .admit .result) (a .admit .ensures) _ (w .why .given .1)
 
 same-length : tie.Need-same-length
 same-length c = search needs
@@ -55,7 +62,7 @@ returns-2 c =
     let s : tie.Start = search in
     let store = d .draw-lines .last .1 .1 .1 .0 in
     let work = d .draw-lines .last .1 .1 .1 .1 .0 in
-    clipped (s .args .self .rect) (s .args .path .now) (s .args .coordinates .now) (s .args .lengths .now) (s .args .store .now) (s .args .work .now) (a .admit .result) (a .admit .ensures) _ (b .bounds .given .1) (d .draw-lines .ensures) store work (d .draw-lines .kept .1 .1 .1 .0) (d .draw-lines .kept .1 .1 .1 .1 .0) (clear-store .clear-store .ensures) (clear-work .clear-work .ensures)
+    drawn-call false 0 (s .args .self .rect) (s .args .path .now) (before s) (a .admit .result) (a .admit .ensures) _ (b .bounds .given .1) (d .draw-lines .ensures) store work (d .draw-lines .kept .1 .1 .1 .0) (d .draw-lines .kept .1 .1 .1 .1 .0) (clear-store .clear-store .ensures) (clear-work .clear-work .ensures)
 
 pub execute-spec : {M : Type 1} → statement M
 execute-spec =

@@ -28,7 +28,7 @@ returns-2 : tie.Need-returns-2
 returns-2 c =
     let s : tie.Start = search in
     let w : tie.After-answer-line = search in
-    record { size = rw (w .answer-line .ensures .count) (answer-fits (s .args .self .rect) (toZ w64 (s .args .number)) (request false (s .args .line .now))); kept = omega arith }
+    record { size = rw (w .answer-line .ensures .0 .count) (answer-fits (s .args .self .rect) (toZ w64 (s .args .number)) (request false (s .args .line .now))); kept = omega arith }
 
 pub asked-spec : {M : Type 1} → statement M
 asked-spec = tie.close (tie.spec read-first-requires enum-known-request returns cast-answer-line answer-line-requires returns-2)
