@@ -2,6 +2,7 @@ pub mod Crossed
 pub mod Tests
 pub mod Locations
 pub mod Holds
+pub mod Alike
 pub mod Points
 pub mod Returned
 pub mod OnEdge
@@ -34,6 +35,7 @@ pub mod Unlinked
 pub mod Straightens
 pub mod Drops
 pub mod Scans
+pub mod WalkOver
 pub mod FoldPoints
 pub mod Fold
 pub mod Ninth
