@@ -78,3 +78,14 @@ pub mod FewEntries
 pub mod ListsFit
 pub mod GeoExact
 pub mod Search
+pub mod Run
+pub mod LastPoint
+pub mod SameWalks
+pub mod RunWalk
+pub mod RunStart
+pub mod RunClosed
+pub mod RunOpen
+pub mod SameEntries
+pub mod RunBounds
+pub mod Detour
+pub mod DetourExample
