@@ -112,6 +112,34 @@ def rings():
     return f.done()
 
 
+def detour():
+    """Two routes outside between the same two points beyond the top edge's line, and the one drawing that both give."""
+    f = Figure(640, 340)
+    f.rect(220, 180, 240, 130, BLACK, "#f4f7fa")
+    f.path([(20, 180), (620, 180)], BLACK, dash="5 4", width=1)
+    f.text(620, 198, "line of the top edge", BLACK, "end")
+    out, back = (300, 130), (400, 140)
+    f.path([out, (180, 150), (60, 115), (110, 45), (330, 30)], GREY, arrow=True)
+    f.path([(330, 30), (560, 50), (510, 110), back], GREY)
+    f.text(122, 96, "one route", GREY)
+    f.path([out, (350, 90), back], RED)
+    f.text(362, 90, "another route", RED)
+    leaving, coming = (290, 180), (408, 180)
+    f.path([leaving, out], BLACK)
+    f.path([back, coming], BLACK)
+    f.path([(250, 290), (280, 230), leaving], BLUE, width=3)
+    f.path([coming, (420, 240), (380, 290)], BLUE, width=3)
+    f.dot(*leaving, BLUE)
+    f.dot(*coming, BLUE)
+    f.text(346, 216, "one drawing", BLUE, "middle")
+    f.text(346, 233, "for both", BLUE, "middle")
+    f.text(346, 330, "the owner's rectangle", GREY, "middle")
+    for (x, y), words, dx, dy, colour in (((280, 230), "p", -10, 2, BLUE), (out, "q", -4, -10, BLACK), (back, "q′", -8, 18, BLACK)):
+        f.dot(x, y, colour)
+        f.text(x + dx, y + dy, words, colour, "end")
+    return f.done()
+
+
 def slots():
     """A slot of the work list, and the arena's record that it stands for."""
     f = Figure(680, 90)
@@ -123,7 +151,7 @@ def slots():
     return f.done()
 
 
-FIGURES = {"rounding": rounding, "depths": depths, "walk": walk, "rings": rings, "slots": slots}
+FIGURES = {"rounding": rounding, "depths": depths, "walk": walk, "rings": rings, "detour": detour, "slots": slots}
 
 
 def main():

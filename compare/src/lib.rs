@@ -4,6 +4,7 @@
 // core, rectclip: the text as it stands. counted: rectclip with calls to `tally` and `reach`.
 include!(concat!(env!("OUT_DIR"), "/rust_at_hand.rs"));
 
+pub mod detours;
 pub mod drawings;
 pub mod facts;
 pub mod judge;

@@ -7,6 +7,7 @@ pub mod firmware;
 pub mod geos;
 pub mod harness;
 pub mod series;
+pub mod sheet;
 
 use compare::judge::Kind;
 

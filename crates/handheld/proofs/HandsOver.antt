@@ -15,7 +15,7 @@ use Rattle.plane.specs.Points.{points-of, coordinates-of}
 use Rattle.reference.specs.Walk.{no-room}
 use Rattle.reference.specs.Entry.{Drawing, Outcome, Lent, After, joined, delivered, answered, early-refusal, sheet-refusal, drawing-of}
 use Rattle.rectclip.specs.Promises.{lent}
-use Rattle.rectclip.proofs.Calling.{call-is}
+use Rattle.theorems.proofs.SameEntries.{call-is}
 use Rattle.rectclip.proofs.Writing.{coordinates-length}
 use Rattle.handheld.specs.Called.{called}
 use Rattle.handheld.specs.Drawn.{clipped, handed, HandsOver}

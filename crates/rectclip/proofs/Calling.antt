@@ -16,9 +16,10 @@ use Rattle.plane.specs.Basics.{if_then_else_, Try, refuse, ok}
 use Rattle.plane.specs.Points.{points-of, coordinates-of}
 use Rattle.plane.specs.Rectangle.{get-bounds-path}
 use Rattle.reference.specs.Walk.{no-room}
-use Rattle.reference.specs.Entry.{refused, drawn, Drawing, Lent, After, joined, filled, delivered, answered, early-refusal, drawing-of, clip-closed, clip-open, clip-path, filled-part}
+use Rattle.reference.specs.Entry.{refused, drawn, Drawing, Lent, After, joined, filled, delivered, answered, early-refusal, drawing-of, clip-path, filled-part}
 use Rattle.theorems.specs.Demand.{Exactness}
 use Rattle.theorems.proofs.ClosedArea.{call-bounded, demand-3}
+use Rattle.theorems.proofs.SameEntries.{call-is}
 use Rattle.entry.specs.declared.admission.Admission.{Admission}
 use Rattle.entry.specs.declared.admission.Admission.the-variants.{Admitted, Refused}
 use Rattle.entry.specs.declared.answer.Answer.{Answer}
@@ -91,12 +92,6 @@ module _ (closed : Bool) (rect : Rect64) (path : List ℤ) (l : Lent) (c : Count
   returns (ok d) exact L er = shows d (exact d refl) (rw er at L)
 
 -- ---- the call: of an open path with no turns allowed
-pub call-is : (closed : Bool) (A : ℕ) (rect : Rect64) (path : List ℤ) (l : Lent)
-    → clip-path closed A rect path l ≡ answered l (early-refusal (length (l .store) / 2) (if closed then A else 0) (length (l .work)) rect path) (drawing-of closed (no-room (length (l .store) / 2)) A rect (points-of path))
-unfolding clip-closed clip-open
-call-is true A rect path l = refl
-call-is false A rect path l = refl
-
 module _ (closed : Bool) (A : ℕ) (rect : Rect64) (path : List ℤ) (l : Lent) where
   abbrev W : ℕ
   W = length (l .store) / 2

@@ -29,6 +29,7 @@ use Rattle.theorems.proofs.GeoWalk.{Step, skip, stop, step}
 use Rattle.theorems.proofs.GeoProgress.{In, Stop, Steps, goes, halts, steps, skips-in}
 use Rattle.theorems.proofs.NextPoints.{Rest, rest-of, first-of, others-of}
 use Rattle.theorems.proofs.Passes.{Stays, cross-stays, before-limited}
+use Rattle.theorems.proofs.WalkOver.{walk-over}
 use Rattle.theorems.proofs.FoldPoints.{next-location, go-past, at-point, walk-on, after, next-is, past-next, differ, lt-yes, lt-no, le-yes, le-no, cond-no}
 
 -- ---- binding
@@ -303,7 +304,7 @@ module _ (full : ℕ → Bool) (r : Rect64) (path : List Point64) where
               ∙ sym (assoc (cross-boundary full r c ip cl) (go-past full r p) (λ u. walk-on full r u p ps))
 
     folds : (ps : List Point64) → Folds ps
-    unfolding walk-on
+    unfolding walk-over
     folds [] n s rs h = passes-over n s (omega (arith, rs .long))
     folds (p ∷ ps) zero s rs h = absurd (omega (arith, rs .long))
     folds (p ∷ ps) (suc n) s rs h = ap-point (steps r (s .loc) (pt-at path (s .i))) (folds ps)

@@ -23,6 +23,7 @@ use Rattle.theorems.proofs.GeoWalk.{skip, stop, step}
 use Rattle.theorems.proofs.GeoProgress.{In, Stop, Steps, goes, halts, steps, skips-in}
 use Rattle.theorems.proofs.NextPoints.{Rest, rest-of, first-of, others-of}
 use Rattle.theorems.proofs.Passes.{stop-in}
+use Rattle.theorems.proofs.WalkOver.{walk-over}
 use Rattle.theorems.proofs.FoldPoints.{next-location, next-is, after, differ, past-next, lt-yes, lt-no, le-yes, le-no, cond-no}
 use Rattle.theorems.proofs.Fold.{assoc, bind-same, Any, passed, chosen, next-chosen, next-end}
 
@@ -41,9 +42,8 @@ module _ (full : ℕ → Bool) (rect : Rect64) where
       elim (get-intersection rect p q l) [ Missed ↦ ok (record { walk = s .walk; loc = l; i = s .i + 1 }) | Found ip crossing-loc ↦ line-cross full rect nx (s .loc) q p ip >>= line-past p ] in
       if same-location l (s .loc) then line-past p s else stopped
 
-  unfoldable pub line-on : Next → Point64 → List Point64 → Try Next
-  line-on s q [] = ok s
-  line-on s q (p ∷ ps) = line-at s q p >>= λ t. line-on t p ps
+  abbrev pub line-on : Next → Point64 → List Point64 → Try Next
+  line-on = walk-over line-at
 
 module _ (full : ℕ → Bool) (r : Rect64) (path : List Point64) where
   -- ---- a crossing leaves the walk where it was
@@ -192,7 +192,7 @@ module _ (full : ℕ → Bool) (r : Rect64) (path : List Point64) where
             ∙ sym (assoc (line-cross full r nx (s .loc) q p ip) (line-past full r p) (λ u. line-on full r u p ps))
 
   folds : (ps : List Point64) → Folds ps
-  unfolding line-on
+  unfolding walk-over
   folds [] n s rs h = passes-over n s (omega (arith, rs .long))
   folds (p ∷ ps) zero s rs h = absurd (omega (arith, rs .long))
   folds (p ∷ ps) (suc n) s rs h = go (steps r (s .loc) (pt-at path (s .i))) (folds ps) ∙ ap (λ (x : Point64). line-at full r s (pt-at path (s .i - 1)) x >>= λ t. line-on full r t x ps) (sym (first-of path (s .i) p ps rs))

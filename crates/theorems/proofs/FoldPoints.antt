@@ -1,7 +1,7 @@
 -- The walk as a fold over the points, its words, and one point of `get_next_location`.
 use mathlib.Core.Path.{_≡_, refl, _∙_, ap, subst}
 use mathlib.Core.Bool.{Bool, true, false, cond}
-use mathlib.Core.List.{List, [], _∷_}
+use mathlib.Core.List.{List}
 use Prim.Native.Nat.{ℕ, _+_, _<_, _≤_}
 use native.Mathlib.Omega.{arith}
 use lib.Dec.{leb, ltb, leb→le, nleb→lt, ltb→lt, nltb→le}
@@ -17,6 +17,7 @@ use Rattle.plane.specs.Locations.{same-location, is-inside}
 use Rattle.plane.specs.Rectangle.{beyond, beyond-or-on}
 use Rattle.plane.specs.Intersection.{get-intersection}
 use Rattle.reference.specs.Walk.{add, next-side, State, Pass, remain-outside, cross-boundary}
+use Rattle.theorems.proofs.WalkOver.{walk-over}
 use Rattle.theorems.proofs.GeoPlane.{loc}
 use Rattle.theorems.proofs.GeoWalk.{Step, skip, stop, step}
 use Rattle.theorems.proofs.GeoProgress.{In, Stop, stop-clash}
@@ -53,9 +54,8 @@ module _ (full : ℕ → Bool) (rect : Rect64) where
       let stopped : Try State = elim (get-intersection rect p q l) [ Missed ↦ remain-outside full rect c | Found ip crossing-loc ↦ cross-boundary full rect c ip crossing-loc >>= go-past p ] in
       if same-location l (s .loc) then go-past p s else stopped
 
-  unfoldable pub walk-on : State → Point64 → List Point64 → Try State
-  walk-on s q [] = ok s
-  walk-on s q (p ∷ ps) = at-point s q p >>= λ t. walk-on t p ps
+  abbrev pub walk-on : State → Point64 → List Point64 → Try State
+  walk-on = walk-over at-point
 
 -- ---- one point of `get_next_location`
 abbrev pub after : Location → Step → Location

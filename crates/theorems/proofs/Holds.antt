@@ -69,6 +69,10 @@ module _ (P : Point64 → Type 0) where
   all-push [] p h q = (q, tt)
   all-push (x ∷ ps) p h q = (h .0, all-push ps p (h .1) q)
 
+  pub all-split : (xs ys : List Point64) → All P (xs ++ ys) → All P xs × All P ys
+  all-split [] ys h = (tt, h)
+  all-split (x ∷ xs) ys h = let k = all-split xs ys (h .1) in ((h .0, k .0), k .1)
+
   pub all-drop : (i : ℕ) (ps : List Point64) → All P ps → All P (drop i ps)
   all-drop zero ps h = h
   all-drop (suc i) [] h = tt

@@ -2,6 +2,7 @@ pub mod Crossed
 pub mod Tests
 pub mod Locations
 pub mod Holds
+pub mod Alike
 pub mod Points
 pub mod Returned
 pub mod OnEdge
@@ -34,6 +35,7 @@ pub mod Unlinked
 pub mod Straightens
 pub mod Drops
 pub mod Scans
+pub mod WalkOver
 pub mod FoldPoints
 pub mod Fold
 pub mod Ninth
@@ -76,3 +78,14 @@ pub mod FewEntries
 pub mod ListsFit
 pub mod GeoExact
 pub mod Search
+pub mod Run
+pub mod LastPoint
+pub mod SameWalks
+pub mod RunWalk
+pub mod RunStart
+pub mod RunClosed
+pub mod RunOpen
+pub mod SameEntries
+pub mod RunBounds
+pub mod Detour
+pub mod DetourExample

@@ -28,7 +28,7 @@ use Rattle.plane.specs.Polygon.{path1-contains-path2}
 use Rattle.reference.specs.Walk.{Walk, nothing-yet, unlimited, add, add-all, push-start-loc, add-corner-prev-curr, add-corner-loc, add-corners, push-start-locs, State, Pass, Walked, remain-outside, enter, pass-to, pass-through, leave, cross-boundary, passes, last-off, add-round, retrace, close-outline, surround, after-while, walk-from, walk-closed}
 use Rattle.theorems.specs.Outline.{Outlined, OutlineDrawn}
 use Rattle.theorems.proofs.Unlimited.{outline-is}
-use Rattle.theorems.proofs.Holds.{Holds, held, All, all-at}
+use Rattle.theorems.proofs.Holds.{Holds, refused, held, All, all-at}
 use Rattle.theorems.proofs.Demand.{points-limited, not-empty-order}
 use Rattle.theorems.proofs.GeoPlane.{loc, Proper}
 use Rattle.theorems.proofs.GeoSearch.{Finds, FindsNone, found-or, enter as enter-geo, leave as leave-geo, back}
@@ -36,7 +36,8 @@ use Rattle.theorems.proofs.GeoWalk.{on-edge, on-left, on-right, on-top,
 use Rattle.theorems.proofs.GeoProgress.{In, side-in, Stop, enters, passes as crosses, leaves, Steps, goes, halts, steps, edge-closed}
 use Rattle.theorems.proofs.Bridge.{told, search-told}
 use Rattle.theorems.proofs.Passes.{stop-in, Stays, cross-stays, sides-out, get-location-in}
-use Rattle.theorems.proofs.FoldPoints.{go-past, at-point, walk-on, next-is, after, differ}
+use Rattle.theorems.proofs.WalkOver.{walk-over}
+use Rattle.theorems.proofs.FoldPoints.{go-past, at-point, next-is, after, differ}
 use Rattle.theorems.proofs.Fold.{pass-at, turned-past, at-stopped, at-gone, walk-folds}
 use Rattle.theorems.proofs.Tests.{never}
 
@@ -44,6 +45,10 @@ use Rattle.theorems.proofs.Tests.{never}
 pub data Room (full : ℕ → Bool) {A : Type 0} (Q : A → Type 0) : Try A → Type 0 where
   want : (n : ℕ) → full n ≡ true → Room full Q (refuse 8)
   fine : {a : A} → Q a → Room full Q (ok a)
+
+pub room-holds : {full : ℕ → Bool} {A : Type 0} {Q : A → Type 0} {m : Try A} → Room full Q m → Holds Q m
+room-holds (want n e) = refused
+room-holds (fine h) = held h
 
 abbrev pub Any : {A : Type 0} → A → Type 0
 Any {A} a = Unit {0}
@@ -177,6 +182,14 @@ pub weaken : {full : ℕ → Bool} {A : Type 0} (Q R : A → Type 0) (m : Try A)
 weaken Q R m (want n e) f = want n e
 weaken Q R m (fine {a} h) f = fine (f a h)
 
+-- a walk over points, from the region of the place of each to that of the next
+pub over8 : {full : ℕ → Bool} (r : Rect64) {S : Type 0} (visit : S → Point64 → Point64 → Try S) (place : S → Location)
+    → ((s : S) (q p : Point64) → Limited q → Limited p → In r (place s) q → Room full (λ (t : S). In r (place t) p) (visit s q p))
+    → (s : S) (q : Point64) (ps : List Point64) → Limited q → All Limited ps → In r (place s) q → Room full Any (walk-over visit s q ps)
+unfolding walk-over
+over8 r visit place step s q [] lq ls h = fine tt
+over8 r {S} visit place step s q (p ∷ ps) lq ls h = bind8 (λ (t : S). In r (place t) p) Any (visit s q p) _ (step s q p lq (ls .0) h) (λ t g. over8 r visit place step t p ps (ls .0) (ls .1) g)
+
 module _ (full : ℕ → Bool) (r : Rect64) (lr : LimitedRect r) (k : Proper r) where
   cross8 : (c : Pass) (ip : Point64) (l : Location) → Limited (c .pt) → Limited (c .prev-pt) → Stop r (c .pt) (c .prev) (c .loc) → In r (c .prev) (c .prev-pt) → get-intersection r (c .pt) (c .prev-pt) (c .loc) ≡ Found ip l
       → Room full Any (cross-boundary full r c ip l)
@@ -188,7 +201,7 @@ module _ (full : ℕ → Bool) (r : Rect64) (lr : LimitedRect r) (k : Proper r) 
       (λ _. bind8 Any Any (add full (c .walk) ip false) _ (add8 full _ _ _) (λ w _. fine tt)))
 
   module _ (path : List Point64) where
-    at-point8 : (s : State) (q p : Point64) → Limited q → Limited p → In r (s .loc) q → Room full (λ (t : State). In r (t .loc) p) (at-point full r s q p)
+    pub at-point8 : (s : State) (q p : Point64) → Limited q → Limited p → In r (s .loc) q → Room full (λ (t : State). In r (t .loc) p) (at-point full r s q p)
     at-point8 s q p lq lp h = go (steps r (s .loc) p)
       where
         Q : State → Type 0
@@ -209,11 +222,6 @@ module _ (full : ℕ → Bool) (r : Rect64) (lr : LimitedRect r) (k : Proper r) 
             on Missed e = weaken (λ (t : State). t .loc ≡ l) Q (remain-outside full r c) (remain8 full r c) (λ u e. subst (λ (l : Location). In r l p) (sym e) (stop-in r p t))
             on (Found ip cl) e =
                 bind8 (Stays full r lr k c) Q (cross-boundary full r c ip cl) _ (both (Stays full r lr k c) _ (cross8 c ip cl lp lq t h e) (cross-stays full r lr k c ip cl lp lq t e)) (λ u g. past u (g .1))
-
-    walk-on8 : (s : State) (q : Point64) (ps : List Point64) → Limited q → All Limited ps → In r (s .loc) q → Room full Any (walk-on full r s q ps)
-    unfolding walk-on
-    walk-on8 s q [] lq ls h = fine tt
-    walk-on8 s q (p ∷ ps) lq ls h = bind8 (λ (t : State). In r (t .loc) p) Any (at-point full r s q p) _ (at-point8 s q p lq (ls .0) h) (λ t g. walk-on8 t p ps (ls .0) (ls .1) g)
 
     -- ---- behind the loop
     round8 : (w : Walk) (es : List (ℕ × ℕ)) (ks : List ℕ) → Room full Any (add-round full r w es ks)
@@ -254,7 +262,7 @@ module _ (full : ℕ → Bool) (r : Rect64) (lr : LimitedRect r) (k : Proper r) 
       from8 h l i =
           bind8 Any Any (passes full r path (length path + 1) (record { walk = nothing-yet; i = 0; loc = l; crossing-loc = Inside; first-cross = Inside })) _
           (subst (Room full Any) (sym (walk-folds full r path lr k lim nothing-yet l))
-          (walk-on8 (record { walk = nothing-yet; i = 0; loc = l; crossing-loc = Inside; first-cross = Inside }) (pt-at path (length path - 1)) path (all-at Limited path (length path - 1) origin lim (omega arith)) lim i))
+          (over8 r (at-point full r) (λ s. s .loc) at-point8 (record { walk = nothing-yet; i = 0; loc = l; crossing-loc = Inside; first-cross = Inside }) (pt-at path (length path - 1)) path (all-at Limited path (length path - 1) origin lim (omega arith)) lim i))
           (λ s _. after8 l s)
 
 -- ---- the start

@@ -1,7 +1,7 @@
 -- Refusal 9 never comes for lines either.
 use mathlib.Core.Path.{_≡_, refl, sym, _∙_, ap, subst}
 use mathlib.Core.Bool.{Bool, true, false, not}
-use mathlib.Core.List.{List, [], _∷_}
+use mathlib.Core.List.{List, []}
 use Prim.Native.Nat.{ℕ, _<_, _≤_}
 use native.Mathlib.Omega.{arith}
 use lib.ListN.{length, drop}
@@ -29,8 +29,8 @@ use Rattle.theorems.proofs.GeoPlane.{Proper}
 use Rattle.theorems.proofs.GeoProgress.{In, Stop, Steps, goes, halts, steps, edge-closed}
 use Rattle.theorems.proofs.Passes.{stop-in, get-location-in}
 use Rattle.theorems.proofs.FoldPoints.{next-is, after, differ}
-use Rattle.theorems.proofs.FoldLines.{line-past, line-at, line-on, StaysAt, cross-stays, turned-past, at-stopped, at-gone, line-folds}
-use Rattle.theorems.proofs.Ninth.{Room, want, fine, Any, bind8, either8, search8, both, weaken, add8, add-all8, back-found, on-edge-of}
+use Rattle.theorems.proofs.FoldLines.{line-past, line-at, StaysAt, cross-stays, turned-past, at-stopped, at-gone, line-folds}
+use Rattle.theorems.proofs.Ninth.{Room, want, fine, Any, bind8, either8, search8, both, weaken, over8, add8, add-all8, back-found, on-edge-of}
 
 module _ (full : ℕ → Bool) (r : Rect64) (lr : LimitedRect r) (k : Proper r) (path : List Point64) where
   cross8 : (nx : Next) (prev : Location) (q p ip : Point64) (l : Location) → Limited p → Limited q → Stop r p prev (nx .loc) → In r prev q → get-intersection r p q (nx .loc) ≡ Found ip l → Room full Any (line-cross full r nx prev q p ip)
@@ -46,7 +46,7 @@ module _ (full : ℕ → Bool) (r : Rect64) (lr : LimitedRect r) (k : Proper r) 
   unfolding line-past
   past8 p s = bind8 Any (λ (t : Next). t .loc ≡ s .loc) (if is-inside (s .loc) then add full (s .walk) p false else ok (s .walk)) _ (either8 Any (is-inside (s .loc)) _ _ (λ _. add8 full _ _ _) (λ _. fine tt)) (λ w _. fine refl)
 
-  line-at8 : (s : Next) (q p : Point64) → Limited q → Limited p → In r (s .loc) q → Room full (λ (t : Next). In r (t .loc) p) (line-at full r s q p)
+  pub line-at8 : (s : Next) (q p : Point64) → Limited q → Limited p → In r (s .loc) q → Room full (λ (t : Next). In r (t .loc) p) (line-at full r s q p)
   line-at8 s q p lq lp h = go (steps r (s .loc) p)
     where
       Q : Next → Type 0
@@ -69,11 +69,6 @@ module _ (full : ℕ → Bool) (r : Rect64) (lr : LimitedRect r) (k : Proper r) 
               bind8 (StaysAt full r path nx) Q (line-cross full r nx (s .loc) q p ip) _ (both (StaysAt full r path nx) _ (cross8 nx (s .loc) q p ip cl lp lq t h e) (cross-stays full r path nx (s .loc) q p ip))
               (λ u g. past u (subst (λ (x : Location). In r x p) (sym (g .1)) (stop-in r p t)))
 
-  line-on8 : (s : Next) (q : Point64) (ps : List Point64) → Limited q → All Limited ps → In r (s .loc) q → Room full Any (line-on full r s q ps)
-  unfolding line-on
-  line-on8 s q [] lq ls h = fine tt
-  line-on8 s q (p ∷ ps) lq ls h = bind8 (λ (t : Next). In r (t .loc) p) Any (line-at full r s q p) _ (line-at8 s q p lq (ls .0) h) (λ t g. line-on8 t p ps (ls .0) (ls .1) g)
-
   module _ (lim : All Limited path) where
     from8 : 0 < length path → (l : Location) → In r l (pt-at path 0) → Room full Any (line-walk-from full r path l)
     unfolding line-walk-from
@@ -81,7 +76,7 @@ module _ (full : ℕ → Bool) (r : Rect64) (lr : LimitedRect r) (k : Proper r) 
         bind8 Any Any (if is-inside l then add full nothing-yet (pt-at path 0) false else ok nothing-yet) _ (either8 Any (is-inside l) _ _ (λ _. add8 full _ _ _) (λ _. fine tt))
         (λ w _. bind8 Any Any (line-passes full r path (length path) (record { walk = w; loc = l; i = 1 })) _
         (subst (Room full Any) (sym (line-folds full r path w l h))
-        (line-on8 (record { walk = w; loc = l; i = 1 }) (pt-at path 0) (drop 1 path) (all-at Limited path 0 origin lim h) (all-drop Limited 1 path lim) i))
+        (over8 r (line-at full r) (λ s. s .loc) line-at8 (record { walk = w; loc = l; i = 1 }) (pt-at path 0) (drop 1 path) (all-at Limited path 0 origin lim h) (all-drop Limited 1 path lim) i))
         (λ s _. fine tt))
 
     pub open-room : Room full Any (walk-open full r path)

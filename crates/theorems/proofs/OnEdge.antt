@@ -89,10 +89,10 @@ from-inner : (s : Rect64) (path : List Point64) → Inner s (bounds-from s path)
 from-inner s [] = record { left = omega zint; top = omega zint; right = omega zint; bottom = omega zint }
 from-inner s (p ∷ path) = inner-trans s (grown s p) (bounds-from (grown s p) path) (grown-inner s p) (from-inner (grown s p) path)
 
-abbrev In : Rect64 → Point64 → Type 0
+abbrev pub In : Rect64 → Point64 → Type 0
 In t p = (t .left ≤ℤ p .x) × (p .x ≤ℤ t .right) × (t .top ≤ℤ p .y) × (p .y ≤ℤ t .bottom)
 
-all-in : (s : Rect64) (path : List Point64) → All (In (bounds-from s path)) path
+pub all-in : (s : Rect64) (path : List Point64) → All (In (bounds-from s path)) path
 all-in s [] = tt
 all-in s (p ∷ path) =
     let k = from-inner (grown s p) path in

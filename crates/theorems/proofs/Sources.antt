@@ -5,7 +5,7 @@ use mathlib.Core.List.{List, [], _∷_}
 use Prim.Native.Nat.{ℕ, zero, suc, _+_, _-_, _<_, suc-le-suc, zero-le}
 use native.Mathlib.Omega.{arith}
 use lib.ListN.{length}
-use lib.Dec.{T, ltb, lt→ltb, lit<}
+use lib.Dec.{ltb, lt→ltb, lit<}
 use lib.Signed.{ltZ, leZ}
 use Rattle.integers.specs.Tests.{eqZ, ltZ-false, cond-true}
 use Rattle.plane.specs.declared.point.Point64.{Point64}
@@ -27,7 +27,7 @@ use Rattle.theorems.proofs.Points.{WithinSides, all-keeping, walked-kep
 use Rattle.theorems.proofs.Returned.{EnteredWithPoints, walked-entered, AllPaths, KeptPaths, clip-kept}
 use Rattle.theorems.proofs.OnEdge.{on-edge, contained}
 use Rattle.theorems.proofs.PointsOpen.{walk-open-kept, lines-kept}
-use Rattle.theorems.proofs.Tests.{never}
+use Rattle.theorems.proofs.Tests.{never, true-of}
 
 -- what a search finds on the segment from a to b: a corner, or a point near an exact crossing
 pub data Hit (r : Rect64) (a b q : Point64) : Type 0 where
@@ -58,10 +58,6 @@ inner r p =
         → (cond b s t) .off ≡ true → is-inside ((cond b s t) .loc) ≡ true → W
     chain true s t h k e f = h e f
     chain false s t h k e f = k refl e f
-
-true-of : (b : Bool) → T b → b ≡ true
-true-of true h = refl
-true-of false h = absurd h
 
 module _ (closed : Bool) (r : Rect64) (path : List Point64) (searches : (a b : Point64) → Segment closed path a b → Searches r a b) where
   abbrev From : Point64 → Type 0

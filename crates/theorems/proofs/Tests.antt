@@ -1,8 +1,13 @@
--- Words of proofs about tests: a test is not both true and false, and what a joined test says of its parts. Assumes nothing.
+-- Words of proofs about tests: a test that holds is true, none is both true and false, and what a joined test says of its parts. Assumes nothing.
 use mathlib.Core.Path.{_≡_, refl}
 use mathlib.Core.Bool.{Bool, true, false, not, _&&_, _||_}
 use Prim.Native.Nat.{ℕ}
 use native.Mathlib.Omega.{arith}
+use lib.Dec.{T}
+
+pub true-of : (b : Bool) → T b → b ≡ true
+true-of true h = refl
+true-of false h = absurd h
 
 pub never : {W : Type 0} {b : Bool} → b ≡ true → b ≡ false → W
 never e f = let z : _≡_ {A = ℕ} 0 1 = cc in absurd (omega arith)

@@ -7,3 +7,4 @@ pub mod Sizes
 pub mod Rings
 pub mod Outline
 pub mod Search
+pub mod Detour
