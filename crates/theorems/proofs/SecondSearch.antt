@@ -9,7 +9,6 @@ use Rattle.plane.specs.declared.rect.Rect64.{Rect64}
 use Rattle.plane.specs.declared.location.Location.{Location}
 use Rattle.plane.specs.declared.crossing.Search.{Search}
 use Rattle.plane.specs.declared.crossing.Search.the-variants.{Missed, Found}
-use Rattle.plane.specs.declared.crossing.SidePoint.{SidePoint}
 use Rattle.plane.specs.Limit.{Limited, LimitedRect}
 use Rattle.plane.specs.Points.{origin, pt-at, points-of}
 use Rattle.plane.specs.Locations.{is-inside}
@@ -20,7 +19,7 @@ use Rattle.theorems.specs.SecondSearch.{FindsBack, SecondSearchFinds}
 use Rattle.theorems.proofs.Holds.{all-at}
 use Rattle.theorems.proofs.Demand.{points-limited, not-empty-order}
 use Rattle.theorems.proofs.GeoPlane.{loc, Proper}
-use Rattle.theorems.proofs.GeoSearch.{Finds, FindsNone, found-or as finds-or, back}
+use Rattle.theorems.proofs.GeoSearch.{Finds, FindsNone, finds-or-none, back}
 use Rattle.theorems.proofs.GeoProgress.{In, side-in, Stop, enters, passes as crosses, leaves}
 use Rattle.theorems.proofs.Bridge.{told, search-told}
 use Rattle.theorems.proofs.EachPass.{before-within, in-every-pass}
@@ -35,7 +34,7 @@ module _ (r : Rect64) (lr : LimitedRect r) (k : Proper r) (p q : Point64) (lp : 
   back-found : (l l′ : Location) → Stop r p l l′ → is-inside l′ ≡ false → is-inside l ≡ false → In r l q → (ip : Point64) (c : Location) → get-intersection r p q l′ ≡ Found ip c → get-intersection r q p l ≡ Missed → ⊥
   back-found l l′ (enters s i inner) o b h ip c e f = never refl o
   back-found l l′ (leaves t n) o b h ip c e f = never refl b
-  back-found l l′ (crosses s t i b′) o b h ip c e f = go (finds-or r k p q t)
+  back-found l l′ (crosses s t i b′) o b h ip c e f = go (finds-or-none r k p q t)
     where
       go : Finds r p q (loc t) ⊎ FindsNone r p q t → ⊥
       go (inl g) =

@@ -1,7 +1,4 @@
 -- `second_search` meets its contract: what the search found, or what stands for it, is in reach. Assumes nothing.
-use mathlib.Core.Path.{_≡_, _∙_, subst}
-use Rattle.plane.specs.declared.crossing.SidePoint.{SidePoint}
-use Rattle.rectclip.specs.Bounds.{Reached}
 use Rattle.rectclip.proofs.Searches.{second-reached, second-is}
 use borrow.Author.Needs.{needs}
 use Rattle.rectclip.proofs.search.second_search.Statement.{statement}
