@@ -36,7 +36,7 @@ enum rect_clip_value {
     RECT_CLIP_RECTANGLE_OUTSIDE = 6,  /* a side of the rectangle is beyond -33,554,432 to 33,554,432 */
     RECT_CLIP_PATH_OUTSIDE = 7,       /* a coordinate of the path is */
     RECT_CLIP_STORE_FULL = 8,         /* the walk round the rectangle needs more than 256 points or start sides */
-    RECT_CLIP_CROSSING_LOST = 9,      /* a passing segment leaves through no side; kept for its number, proved never to come */
+    /* 9 is not used */
     RECT_CLIP_TURNS_SPENT = 10,       /* more than 256 tidy turns; closed paths only */
     RECT_CLIP_LISTS_TOO_SHORT = 11    /* coordinates, lengths or counts cannot hold the whole result */
 };

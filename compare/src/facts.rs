@@ -7,7 +7,7 @@ pub type Fact = fn(Kind, Rect, &[i64], &Run) -> bool;
 
 /// Every fact with its name.
 pub const FACTS: [(&str, Fact); 6] = [
-    ("refusal 9 never comes", second_search_finds),
+    ("the second search of a passing segment finds it", second_search_finds),
     ("doubled areas of the returned paths sum to the outline's", areas_add_up),
     ("what is not walked is copied or gives nothing", unwalked_is_copied),
     ("no returned point lies more than one unit outside", at_most_one_outside),
@@ -16,7 +16,7 @@ pub const FACTS: [(&str, Fact); 6] = [
 ];
 
 fn second_search_finds(_: Kind, _: Rect, _: &[i64], run: &Run) -> bool {
-    run.lost_at.is_none()
+    !run.missed
 }
 
 fn areas_add_up(kind: Kind, _: Rect, _: &[i64], run: &Run) -> bool {
@@ -79,10 +79,10 @@ mod tests {
 
     #[test]
     fn an_altered_run_goes_against_its_fact() {
-        let (nine, area, copied, outside, source, short) = match FACTS.map(|(name, _)| name) {
+        let (found, area, copied, outside, source, short) = match FACTS.map(|(name, _)| name) {
             [a, b, c, d, e, f] => (a, b, c, d, e, f),
         };
-        assert_eq!(against(&altered(|run| run.lost_at = Some((0, 0)))), [nine]);
+        assert_eq!(against(&altered(|run| run.missed = true)), [found]);
         assert_eq!(against(&altered(|run| run.paths.clear())), [area]);
         let backwards = |path: &[i64]| path.rchunks(2).flatten().copied().collect();
         assert_eq!(against(&altered(|run| run.paths[0] = backwards(&run.paths[0]))), [area]);

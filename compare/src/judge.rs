@@ -97,8 +97,8 @@ pub struct Run {
     pub stored: Vec<i64>,
     /// Start sides that the walk pushed.
     pub start_sides: usize,
-    /// Points and start sides so far, when a second search first found nothing.
-    pub lost_at: Option<(usize, usize)>,
+    /// Whether a second search of a passing segment found nothing.
+    pub missed: bool,
     /// Tidy turns over all four edges.
     pub turns: u64,
 }
@@ -109,10 +109,9 @@ impl Run {
         self.stored.len() / 2
     }
 
-    /// The walked outline of a closed path that is walked; without points where a second search finds nothing.
+    /// The walked outline of a closed path that is walked.
     pub fn outline(self) -> Option<Vec<i64>> {
-        let outline = if self.lost_at.is_some() { Vec::new() } else { self.stored };
-        self.walked.then_some(outline)
+        self.walked.then_some(self.stored)
     }
 
     /// The least W that the walk is content with.
@@ -120,13 +119,9 @@ impl Run {
         self.points().max(self.start_sides)
     }
 
-    /// Refusal 8 or 9 of a walk with W, whichever comes first.
+    /// Refusal 8 of a walk with W.
     fn walk_refusal(&self, w: usize) -> Option<u32> {
-        let over = |(points, sides): (usize, usize)| points > w || sides > w;
-        match self.lost_at {
-            Some(so_far) => Some(if over(so_far) { 8 } else { 9 }),
-            None => over((self.points(), self.start_sides)).then_some(8),
-        }
+        (self.least_w() > w).then_some(8)
     }
 
     /// The returned paths as the lent lists hold them.
@@ -186,7 +181,7 @@ pub fn in_limit(numbers: &[i64]) -> bool {
     numbers.iter().all(|n| (-MAX_COORDINATE..=MAX_COORDINATE).contains(n))
 }
 
-/// Refusals 8 to 11, or the result, of a path that 1 to 7 let through. Lines have no turns, so A is not looked at for them.
+/// Refusals 8, 10 and 11, or the result, of a path that 1 to 7 let through. Lines have no turns, so A is not looked at for them.
 pub fn late_answer(run: &Run, lent: Lent) -> Answer {
     if let Some(number) = run.walk_refusal(lent.w) {
         return Answer::Refused(number);
@@ -264,7 +259,7 @@ fn both_copies(kind: Kind, rect: Rect, path: &[i64]) -> Run {
         walked: tally.walked,
         stored: coordinates_of(&tally.points),
         start_sides: tally.start_sides,
-        lost_at: tally.lost_at,
+        missed: tally.missed,
         turns: tally.turns,
     }
 }
@@ -305,39 +300,26 @@ pub fn coordinates_of(path: &[Point64]) -> Vec<i64> {
 mod tests {
     use super::*;
 
-    fn walk(points: usize, start_sides: usize, lost_at: Option<(usize, usize)>) -> Run {
-        Run { stored: vec![0; 2 * points], start_sides, lost_at, ..Run::default() }
+    fn walk(points: usize, start_sides: usize) -> Run {
+        Run { stored: vec![0; 2 * points], start_sides, ..Run::default() }
     }
 
     #[test]
     fn eight_counts_points_and_start_sides() {
-        assert_eq!(walk(5, 5, None).walk_refusal(5), None);
-        assert_eq!(walk(6, 0, None).walk_refusal(5), Some(8));
-        assert_eq!(walk(0, 6, None).walk_refusal(5), Some(8));
-    }
-
-    #[test]
-    fn eight_or_nine_whichever_comes_first() {
-        assert_eq!(walk(9, 9, Some((5, 5))).walk_refusal(5), Some(9));
-        assert_eq!(walk(9, 9, Some((6, 0))).walk_refusal(5), Some(8));
-        assert_eq!(walk(9, 9, Some((0, 6))).walk_refusal(5), Some(8));
-        assert_eq!(walk(3, 0, Some((1, 0))).walk_refusal(5), Some(9));
+        assert_eq!(walk(5, 5).walk_refusal(5), None);
+        assert_eq!(walk(6, 0).walk_refusal(5), Some(8));
+        assert_eq!(walk(0, 6).walk_refusal(5), Some(8));
     }
 
     #[test]
     fn the_second_search_is_told() {
         tally::take();
         tally::second_search(true);
-        tally::point(Point64::new(1, 2));
-        tally::start_side();
-        tally::start_side();
+        assert!(!tally::take().missed);
         tally::second_search(false);
-        tally::point(Point64::new(3, 4));
-        tally::second_search(false);
-        let told = tally::take();
-        assert_eq!(told.lost_at, Some((1, 2)));
-        assert_eq!(coordinates_of(&told.points), [1, 2, 3, 4]);
-        assert_eq!(tally::take().start_sides, 0);
+        tally::second_search(true);
+        assert!(tally::take().missed);
+        assert!(!tally::take().missed);
     }
 
     #[test]

@@ -14,8 +14,8 @@ pub struct Tally {
     pub points: Vec<Point64>,
     /// Entries pushed to `start_locs`.
     pub start_sides: usize,
-    /// Points and start sides so far, when a second search first found nothing.
-    pub lost_at: Option<(usize, usize)>,
+    /// Whether a second search of a passing segment found nothing.
+    pub missed: bool,
     /// Passes of the outer loop of `tidy_edges`, over all four edges.
     pub turns: u64,
 }
@@ -42,11 +42,7 @@ pub fn start_side() {
 }
 
 pub fn second_search(found: bool) {
-    NOW.with_borrow_mut(|now| {
-        if !found && now.lost_at.is_none() {
-            now.lost_at = Some((now.points.len(), now.start_sides));
-        }
-    });
+    NOW.with_borrow_mut(|now| now.missed |= !found);
 }
 
 pub fn turn() {

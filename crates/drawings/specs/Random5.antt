@@ -15,7 +15,7 @@ use Rattle.reference.specs.Clip.{enter-all, arena-of, straighten-pass, straight
 use Rattle.reference.specs.Entry.{sheet-refusal, early-refusal, delivered, answered, clip-closed, clip-open, filled-part, is-present}
 use Rattle.reference.specs.Lines.{first-off-edge, line-through, line-cross, line-from, line-passes, line-walk-from, walk-open, pieces, longer-than-one, execute-lines}
 use Rattle.reference.specs.Tidy.{seek, relink, regroup, keep-one, keep-both, keep-each, settle, rejoin, one-turn, turns-from, tidy-edges}
-use Rattle.reference.specs.Walk.{add, add-all, push-start-loc, next-side, next-outside, add-corner-prev-curr, add-corner-loc, add-corners, push-start-locs, next-inside, get-next-location, remain-outside, enter, pass-to, pass-through, leave, cross-boundary, add-round, retrace, close-outline, last-off, pass-from, passes, surround, after-while, walk-from, walk-closed, walked-outline}
+use Rattle.reference.specs.Walk.{add, add-all, push-start-loc, next-side, next-outside, add-corner-prev-curr, add-corner-loc, add-corners, push-start-locs, next-inside, get-next-location, second-search, remain-outside, enter, pass-to, pass-through, leave, cross-boundary, add-round, retrace, close-outline, last-off, pass-from, passes, surround, after-while, walk-from, walk-closed, walked-outline}
 use lib.Ieee.{ofInt, sub, mul, div, neg, toSigned, eq, lt, le}
 
 abbrev table1 : List Case
@@ -53,7 +53,7 @@ table1 =
     []
 
 drawings1 : map shown table1 ≡ map (λ c. c .expected) table1
-unfolding at-end get-segment-intersection edge-intersection side-intersection get-intersection start-locs-are-clockwise at-vertex scan-pass scan-answer scan-loop point-in-polygon path1-contains-path2 get-bounds-path get-location determinant numerator fraction workingOf crossingOf pointAt intersection cross-product-sign is-collinear cross-product-three-points cross-product-is-negative is-clockwise-dir set-owner set-edge set-next set-prev set-results set-edge-list ring unlink add-to-edge struck uncouple-edge own-from set-new-owner drop-collinear-pass drop-collinear assign-side assign-edges check-ring check-from check-edges enter-all arena-of straighten-pass straighten points-from get-path get-paths clip-walked execute sheet-refusal early-refusal delivered answered clip-closed clip-open filled-part is-present first-off-edge line-through line-cross line-from line-passes line-walk-from walk-open pieces longer-than-one execute-lines seek relink regroup keep-one keep-both keep-each settle rejoin one-turn turns-from tidy-edges add add-all push-start-loc next-side next-outside add-corner-prev-curr add-corner-loc add-corners push-start-locs next-inside get-next-location remain-outside enter pass-to pass-through leave cross-boundary add-round retrace close-outline last-off pass-from passes surround after-while walk-from walk-closed walked-outline lib.Ieee.add ofInt sub mul div neg toSigned eq lt le
+unfolding at-end get-segment-intersection edge-intersection side-intersection get-intersection start-locs-are-clockwise at-vertex scan-pass scan-answer scan-loop point-in-polygon path1-contains-path2 get-bounds-path get-location determinant numerator fraction workingOf crossingOf pointAt intersection cross-product-sign is-collinear cross-product-three-points cross-product-is-negative is-clockwise-dir set-owner set-edge set-next set-prev set-results set-edge-list ring unlink add-to-edge struck uncouple-edge own-from set-new-owner drop-collinear-pass drop-collinear assign-side assign-edges check-ring check-from check-edges enter-all arena-of straighten-pass straighten points-from get-path get-paths clip-walked execute sheet-refusal early-refusal delivered answered clip-closed clip-open filled-part is-present first-off-edge line-through line-cross line-from line-passes line-walk-from walk-open pieces longer-than-one execute-lines seek relink regroup keep-one keep-both keep-each settle rejoin one-turn turns-from tidy-edges add add-all push-start-loc next-side next-outside add-corner-prev-curr add-corner-loc add-corners push-start-locs next-inside get-next-location second-search remain-outside enter pass-to pass-through leave cross-boundary add-round retrace close-outline last-off pass-from passes surround after-while walk-from walk-closed walked-outline lib.Ieee.add ofInt sub mul div neg toSigned eq lt le
 drawings1 = refl
 
 abbrev table2 : List Case
@@ -91,7 +91,7 @@ table2 =
     []
 
 drawings2 : map shown table2 ≡ map (λ c. c .expected) table2
-unfolding at-end get-segment-intersection edge-intersection side-intersection get-intersection start-locs-are-clockwise at-vertex scan-pass scan-answer scan-loop point-in-polygon path1-contains-path2 get-bounds-path get-location determinant numerator fraction workingOf crossingOf pointAt intersection cross-product-sign is-collinear cross-product-three-points cross-product-is-negative is-clockwise-dir set-owner set-edge set-next set-prev set-results set-edge-list ring unlink add-to-edge struck uncouple-edge own-from set-new-owner drop-collinear-pass drop-collinear assign-side assign-edges check-ring check-from check-edges enter-all arena-of straighten-pass straighten points-from get-path get-paths clip-walked execute sheet-refusal early-refusal delivered answered clip-closed clip-open filled-part is-present first-off-edge line-through line-cross line-from line-passes line-walk-from walk-open pieces longer-than-one execute-lines seek relink regroup keep-one keep-both keep-each settle rejoin one-turn turns-from tidy-edges add add-all push-start-loc next-side next-outside add-corner-prev-curr add-corner-loc add-corners push-start-locs next-inside get-next-location remain-outside enter pass-to pass-through leave cross-boundary add-round retrace close-outline last-off pass-from passes surround after-while walk-from walk-closed walked-outline lib.Ieee.add ofInt sub mul div neg toSigned eq lt le
+unfolding at-end get-segment-intersection edge-intersection side-intersection get-intersection start-locs-are-clockwise at-vertex scan-pass scan-answer scan-loop point-in-polygon path1-contains-path2 get-bounds-path get-location determinant numerator fraction workingOf crossingOf pointAt intersection cross-product-sign is-collinear cross-product-three-points cross-product-is-negative is-clockwise-dir set-owner set-edge set-next set-prev set-results set-edge-list ring unlink add-to-edge struck uncouple-edge own-from set-new-owner drop-collinear-pass drop-collinear assign-side assign-edges check-ring check-from check-edges enter-all arena-of straighten-pass straighten points-from get-path get-paths clip-walked execute sheet-refusal early-refusal delivered answered clip-closed clip-open filled-part is-present first-off-edge line-through line-cross line-from line-passes line-walk-from walk-open pieces longer-than-one execute-lines seek relink regroup keep-one keep-both keep-each settle rejoin one-turn turns-from tidy-edges add add-all push-start-loc next-side next-outside add-corner-prev-curr add-corner-loc add-corners push-start-locs next-inside get-next-location second-search remain-outside enter pass-to pass-through leave cross-boundary add-round retrace close-outline last-off pass-from passes surround after-while walk-from walk-closed walked-outline lib.Ieee.add ofInt sub mul div neg toSigned eq lt le
 drawings2 = refl
 
 abbrev table3 : List Case
@@ -129,7 +129,7 @@ table3 =
     []
 
 drawings3 : map shown table3 ≡ map (λ c. c .expected) table3
-unfolding at-end get-segment-intersection edge-intersection side-intersection get-intersection start-locs-are-clockwise at-vertex scan-pass scan-answer scan-loop point-in-polygon path1-contains-path2 get-bounds-path get-location determinant numerator fraction workingOf crossingOf pointAt intersection cross-product-sign is-collinear cross-product-three-points cross-product-is-negative is-clockwise-dir set-owner set-edge set-next set-prev set-results set-edge-list ring unlink add-to-edge struck uncouple-edge own-from set-new-owner drop-collinear-pass drop-collinear assign-side assign-edges check-ring check-from check-edges enter-all arena-of straighten-pass straighten points-from get-path get-paths clip-walked execute sheet-refusal early-refusal delivered answered clip-closed clip-open filled-part is-present first-off-edge line-through line-cross line-from line-passes line-walk-from walk-open pieces longer-than-one execute-lines seek relink regroup keep-one keep-both keep-each settle rejoin one-turn turns-from tidy-edges add add-all push-start-loc next-side next-outside add-corner-prev-curr add-corner-loc add-corners push-start-locs next-inside get-next-location remain-outside enter pass-to pass-through leave cross-boundary add-round retrace close-outline last-off pass-from passes surround after-while walk-from walk-closed walked-outline lib.Ieee.add ofInt sub mul div neg toSigned eq lt le
+unfolding at-end get-segment-intersection edge-intersection side-intersection get-intersection start-locs-are-clockwise at-vertex scan-pass scan-answer scan-loop point-in-polygon path1-contains-path2 get-bounds-path get-location determinant numerator fraction workingOf crossingOf pointAt intersection cross-product-sign is-collinear cross-product-three-points cross-product-is-negative is-clockwise-dir set-owner set-edge set-next set-prev set-results set-edge-list ring unlink add-to-edge struck uncouple-edge own-from set-new-owner drop-collinear-pass drop-collinear assign-side assign-edges check-ring check-from check-edges enter-all arena-of straighten-pass straighten points-from get-path get-paths clip-walked execute sheet-refusal early-refusal delivered answered clip-closed clip-open filled-part is-present first-off-edge line-through line-cross line-from line-passes line-walk-from walk-open pieces longer-than-one execute-lines seek relink regroup keep-one keep-both keep-each settle rejoin one-turn turns-from tidy-edges add add-all push-start-loc next-side next-outside add-corner-prev-curr add-corner-loc add-corners push-start-locs next-inside get-next-location second-search remain-outside enter pass-to pass-through leave cross-boundary add-round retrace close-outline last-off pass-from passes surround after-while walk-from walk-closed walked-outline lib.Ieee.add ofInt sub mul div neg toSigned eq lt le
 drawings3 = refl
 
 abbrev table4 : List Case
@@ -167,5 +167,5 @@ table4 =
     []
 
 drawings4 : map shown table4 ≡ map (λ c. c .expected) table4
-unfolding at-end get-segment-intersection edge-intersection side-intersection get-intersection start-locs-are-clockwise at-vertex scan-pass scan-answer scan-loop point-in-polygon path1-contains-path2 get-bounds-path get-location determinant numerator fraction workingOf crossingOf pointAt intersection cross-product-sign is-collinear cross-product-three-points cross-product-is-negative is-clockwise-dir set-owner set-edge set-next set-prev set-results set-edge-list ring unlink add-to-edge struck uncouple-edge own-from set-new-owner drop-collinear-pass drop-collinear assign-side assign-edges check-ring check-from check-edges enter-all arena-of straighten-pass straighten points-from get-path get-paths clip-walked execute sheet-refusal early-refusal delivered answered clip-closed clip-open filled-part is-present first-off-edge line-through line-cross line-from line-passes line-walk-from walk-open pieces longer-than-one execute-lines seek relink regroup keep-one keep-both keep-each settle rejoin one-turn turns-from tidy-edges add add-all push-start-loc next-side next-outside add-corner-prev-curr add-corner-loc add-corners push-start-locs next-inside get-next-location remain-outside enter pass-to pass-through leave cross-boundary add-round retrace close-outline last-off pass-from passes surround after-while walk-from walk-closed walked-outline lib.Ieee.add ofInt sub mul div neg toSigned eq lt le
+unfolding at-end get-segment-intersection edge-intersection side-intersection get-intersection start-locs-are-clockwise at-vertex scan-pass scan-answer scan-loop point-in-polygon path1-contains-path2 get-bounds-path get-location determinant numerator fraction workingOf crossingOf pointAt intersection cross-product-sign is-collinear cross-product-three-points cross-product-is-negative is-clockwise-dir set-owner set-edge set-next set-prev set-results set-edge-list ring unlink add-to-edge struck uncouple-edge own-from set-new-owner drop-collinear-pass drop-collinear assign-side assign-edges check-ring check-from check-edges enter-all arena-of straighten-pass straighten points-from get-path get-paths clip-walked execute sheet-refusal early-refusal delivered answered clip-closed clip-open filled-part is-present first-off-edge line-through line-cross line-from line-passes line-walk-from walk-open pieces longer-than-one execute-lines seek relink regroup keep-one keep-both keep-each settle rejoin one-turn turns-from tidy-edges add add-all push-start-loc next-side next-outside add-corner-prev-curr add-corner-loc add-corners push-start-locs next-inside get-next-location second-search remain-outside enter pass-to pass-through leave cross-boundary add-round retrace close-outline last-off pass-from passes surround after-while walk-from walk-closed walked-outline lib.Ieee.add ofInt sub mul div neg toSigned eq lt le
 drawings4 = refl

@@ -15,7 +15,7 @@ use Rattle.plane.specs.declared.rect.Rect64.{Rect64}
 use Rattle.reference.specs.Entry.{sheet-refusal, is-present, unknown, yes, no}
 use Rattle.entry.specs.Answers.{number}
 use Rattle.entry.specs.declared.answer.Refusal.{Refusal}
-use Rattle.entry.specs.declared.answer.Refusal.the-variants.{OddCoordinates, StoreTooLong, AllowanceTooLarge, WorkTooShort, PathTooLong, RectangleOutside, PathOutside, StoreFull, CrossingLost, TurnsSpent, ListsTooShort, UnreadableLine}
+use Rattle.entry.specs.declared.answer.Refusal.the-variants.{OddCoordinates, StoreTooLong, AllowanceTooLarge, WorkTooShort, PathTooLong, RectangleOutside, PathOutside, StoreFull, TurnsSpent, ListsTooShort, UnreadableLine}
 
 module _ (most : ℕ) (r : Rect64) (c : List ℤ) where
   pub too-long : most < length c / 2 → 5 ≡ sheet-refusal most r c
@@ -63,7 +63,6 @@ number-not-zero PathTooLong = refl
 number-not-zero RectangleOutside = refl
 number-not-zero PathOutside = refl
 number-not-zero StoreFull = refl
-number-not-zero CrossingLost = refl
 number-not-zero TurnsSpent = refl
 number-not-zero ListsTooShort = refl
 number-not-zero UnreadableLine = refl

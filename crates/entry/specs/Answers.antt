@@ -14,12 +14,13 @@ use Rattle.reference.specs.Entry as entry
 use Rattle.entry.specs.declared.admission.Admission.{Admission}
 use Rattle.entry.specs.declared.admission.Admission.the-variants as admit
 use Rattle.entry.specs.declared.answer.Refusal.{Refusal}
-use Rattle.entry.specs.declared.answer.Refusal.the-variants.{OddCoordinates, StoreTooLong, AllowanceTooLarge, WorkTooShort, PathTooLong, RectangleOutside, PathOutside, StoreFull, CrossingLost, TurnsSpent, ListsTooShort, UnreadableLine}
+use Rattle.entry.specs.declared.answer.Refusal.the-variants.{OddCoordinates, StoreTooLong, AllowanceTooLarge, WorkTooShort, PathTooLong, RectangleOutside, PathOutside, StoreFull, TurnsSpent, ListsTooShort, UnreadableLine}
 use Rattle.entry.specs.declared.answer.Answer.{Answer}
 use Rattle.entry.specs.declared.answer.Answer.the-variants as answer
 use Rattle.entry.specs.declared.answer.Presence.{Presence}
 use Rattle.entry.specs.declared.answer.Presence.the-variants as present
 
+-- 9 is not used: document 02, change 4/13
 abbrev pub number : Refusal → ℕ
 number OddCoordinates = 1
 number StoreTooLong = 2
@@ -29,7 +30,6 @@ number PathTooLong = 5
 number RectangleOutside = 6
 number PathOutside = 7
 number StoreFull = 8
-number CrossingLost = 9
 number TurnsSpent = 10
 number ListsTooShort = 11
 number UnreadableLine = 12

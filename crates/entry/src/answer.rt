@@ -2,7 +2,7 @@
 ghost use mathlib.Core.Path.{_≡_};
 ghost use Rattle.entry.specs.Answers.{number};
 
-// Why a call is refused, in the order of the numbers 1 to 12.
+// Why a call is refused, in the order of the numbers 1 to 12; 9 is not used.
 pub enum Refusal {
     OddCoordinates,
     StoreTooLong,
@@ -12,7 +12,6 @@ pub enum Refusal {
     RectangleOutside,
     PathOutside,
     StoreFull,
-    CrossingLost,
     TurnsSpent,
     ListsTooShort,
     UnreadableLine,
@@ -32,7 +31,6 @@ impl Refusal {
             Refusal::RectangleOutside => 6,
             Refusal::PathOutside => 7,
             Refusal::StoreFull => 8,
-            Refusal::CrossingLost => 9,
             Refusal::TurnsSpent => 10,
             Refusal::ListsTooShort => 11,
             Refusal::UnreadableLine => 12,

@@ -14,7 +14,7 @@ use Rattle.plane.specs.Points.{coordinates-of}
 use Rattle.reference.specs.Entry.{is-present, filled, Outcome, refused, drawn, Lent, After, Drawing, joined, delivered, answered, clip-open, clip-closed, clip-path}
 use Rattle.entry.specs.declared.answer.Presence.{Presence}
 use Rattle.entry.specs.declared.answer.Refusal.{Refusal}
-use Rattle.entry.specs.declared.answer.Refusal.the-variants.{OddCoordinates, StoreTooLong, AllowanceTooLarge, WorkTooShort, PathTooLong, RectangleOutside, PathOutside, StoreFull, CrossingLost, TurnsSpent, ListsTooShort, UnreadableLine}
+use Rattle.entry.specs.declared.answer.Refusal.the-variants.{OddCoordinates, StoreTooLong, AllowanceTooLarge, WorkTooShort, PathTooLong, RectangleOutside, PathOutside, StoreFull, TurnsSpent, ListsTooShort, UnreadableLine}
 use Rattle.entry.specs.declared.answer.Answer.{Answer}
 use Rattle.entry.specs.declared.answer.Answer.the-variants.{Drawn, Refused}
 use Rattle.entry.specs.Answers.{presence, number, outcome}
@@ -38,7 +38,6 @@ number-small PathTooLong = omega arith
 number-small RectangleOutside = omega arith
 number-small PathOutside = omega arith
 number-small StoreFull = omega arith
-number-small CrossingLost = omega arith
 number-small TurnsSpent = omega arith
 number-small ListsTooShort = omega arith
 number-small UnreadableLine = omega arith

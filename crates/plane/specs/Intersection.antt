@@ -14,6 +14,7 @@ use Rattle.plane.specs.declared.crossing.Meeting.{Meeting}
 use Rattle.plane.specs.declared.crossing.Meeting.the-variants.{Apart, Met}
 use Rattle.plane.specs.declared.crossing.Search.{Search}
 use Rattle.plane.specs.declared.crossing.Search.the-variants.{Missed, Found}
+use Rattle.plane.specs.declared.crossing.SidePoint.{SidePoint}
 use Rattle.plane.specs.declared.location.Location.{Location}
 use Rattle.plane.specs.declared.location.Location.the-variants.{Left, Top, Right, Bottom, Inside}
 use Rattle.plane.specs.declared.point.Point64.{Point64}
@@ -93,3 +94,8 @@ get-intersection r p p2 Right = side-intersection r Right p p2
 get-intersection r p p2 Bottom = side-intersection r Bottom p p2
 get-intersection r p p2 Inside =
     edge-intersection r Left p p2 or-else edge-intersection r Top p p2 or-else edge-intersection r Right p p2 or-else edge-intersection r Bottom p p2
+
+-- what a search found, or the point and the side that are given where it found nothing
+abbrev pub found-or : Search → Point64 → Location → SidePoint
+found-or Missed p s = record { point = p; side = s }
+found-or (Found q t) p s = record { point = q; side = t }

@@ -1,4 +1,6 @@
 // A crossing of a segment and an edge, the record of its binary64 numbers, where the two meet, and what a search over the edges finds.
+ghost use mathlib.Core.Path.{_≡_};
+ghost use Rattle.plane.specs.Intersection.{found-or};
 use crate::location::Location;
 use crate::point::Point64;
 
@@ -29,4 +31,22 @@ pub enum Meeting {
 pub enum Search {
     Missed,
     Found(Point64, Location),
+}
+
+// A crossing, and its side.
+pub struct SidePoint {
+    pub point: Point64,
+    pub side: Location,
+}
+
+impl Search {
+    // What the search found, or what is given where it found nothing.
+    pub fn found_or(self, point: Point64, side: Location) -> SidePoint
+        ensures { λ r. ⌜ r ≡ found-or self point side ⌝ }
+    {
+        match self {
+            Search::Missed => SidePoint { point, side },
+            Search::Found(q, s) => SidePoint { point: q, side: s },
+        }
+    }
 }

@@ -23,7 +23,7 @@ use Rattle.reference.specs.Clip.{enter-all, arena-of, straighten-pass, straight
 use Rattle.reference.specs.Entry.{sheet-refusal, early-refusal, delivered, answered, clip-closed, clip-open, filled-part, is-present}
 use Rattle.reference.specs.Lines.{first-off-edge, line-through, line-cross, line-from, line-passes, line-walk-from, walk-open, pieces, longer-than-one, execute-lines}
 use Rattle.reference.specs.Tidy.{seek, relink, regroup, keep-one, keep-both, keep-each, settle, rejoin, one-turn, turns-from, tidy-edges}
-use Rattle.reference.specs.Walk.{add, add-all, push-start-loc, next-side, next-outside, add-corner-prev-curr, add-corner-loc, add-corners, push-start-locs, next-inside, get-next-location, remain-outside, enter, pass-to, pass-through, leave, cross-boundary, add-round, retrace, close-outline, last-off, pass-from, passes, surround, after-while, walk-from, walk-closed, walked-outline}
+use Rattle.reference.specs.Walk.{add, add-all, push-start-loc, next-side, next-outside, add-corner-prev-curr, add-corner-loc, add-corners, push-start-locs, next-inside, get-next-location, second-search, remain-outside, enter, pass-to, pass-through, leave, cross-boundary, add-round, retrace, close-outline, last-off, pass-from, passes, surround, after-while, walk-from, walk-closed, walked-outline}
 use lib.Ieee.{ofInt, sub, mul, div, neg, toSigned, eq, lt, le}
 
 -- `R,0,0,100,100`
@@ -45,7 +45,7 @@ printed : first-answer (request true first) ++ answer owner (pos 2) (request fal
     ≡ 82 ∷ 44 ∷ 48 ∷ 44 ∷ 48 ∷ 44 ∷ 49 ∷ 48 ∷ 48 ∷ 44 ∷ 49 ∷ 48 ∷ 48 ∷ 10
     ∷ 67 ∷ 44 ∷ 50 ∷ 44 ∷ 52 ∷ 44 ∷ 53 ∷ 48 ∷ 44 ∷ 56 ∷ 48 ∷ 44 ∷ 53 ∷ 48 ∷ 44 ∷ 53 ∷ 48 ∷ 44 ∷ 49 ∷ 48 ∷ 48 ∷ 44 ∷ 53 ∷ 48 ∷ 44 ∷ 49 ∷ 48 ∷ 48 ∷ 44 ∷ 56 ∷ 48 ∷ 10
     ∷ 76 ∷ 44 ∷ 51 ∷ 44 ∷ 50 ∷ 44 ∷ 48 ∷ 44 ∷ 49 ∷ 48 ∷ 44 ∷ 49 ∷ 48 ∷ 48 ∷ 44 ∷ 49 ∷ 48 ∷ 10 ∷ []
-unfolding at-end get-segment-intersection edge-intersection side-intersection get-intersection start-locs-are-clockwise at-vertex scan-pass scan-answer scan-loop point-in-polygon path1-contains-path2 get-bounds-path get-location determinant numerator fraction workingOf crossingOf pointAt intersection cross-product-sign is-collinear cross-product-three-points cross-product-is-negative is-clockwise-dir set-owner set-edge set-next set-prev set-results set-edge-list ring unlink add-to-edge struck uncouple-edge own-from set-new-owner drop-collinear-pass drop-collinear assign-side assign-edges check-ring check-from check-edges enter-all arena-of straighten-pass straighten points-from get-path get-paths clip-walked execute sheet-refusal early-refusal delivered answered clip-closed clip-open filled-part is-present first-off-edge line-through line-cross line-from line-passes line-walk-from walk-open pieces longer-than-one execute-lines seek relink regroup keep-one keep-both keep-each settle rejoin one-turn turns-from tidy-edges add add-all push-start-loc next-side next-outside add-corner-prev-curr add-corner-loc add-corners push-start-locs next-inside get-next-location remain-outside enter pass-to pass-through leave cross-boundary add-round retrace close-outline last-off pass-from passes surround after-while walk-from walk-closed walked-outline lib.Ieee.add ofInt sub mul div neg toSigned eq lt le digits-of field decimal signed-decimal asked request clipped
+unfolding at-end get-segment-intersection edge-intersection side-intersection get-intersection start-locs-are-clockwise at-vertex scan-pass scan-answer scan-loop point-in-polygon path1-contains-path2 get-bounds-path get-location determinant numerator fraction workingOf crossingOf pointAt intersection cross-product-sign is-collinear cross-product-three-points cross-product-is-negative is-clockwise-dir set-owner set-edge set-next set-prev set-results set-edge-list ring unlink add-to-edge struck uncouple-edge own-from set-new-owner drop-collinear-pass drop-collinear assign-side assign-edges check-ring check-from check-edges enter-all arena-of straighten-pass straighten points-from get-path get-paths clip-walked execute sheet-refusal early-refusal delivered answered clip-closed clip-open filled-part is-present first-off-edge line-through line-cross line-from line-passes line-walk-from walk-open pieces longer-than-one execute-lines seek relink regroup keep-one keep-both keep-each settle rejoin one-turn turns-from tidy-edges add add-all push-start-loc next-side next-outside add-corner-prev-curr add-corner-loc add-corners push-start-locs next-inside get-next-location second-search remain-outside enter pass-to pass-through leave cross-boundary add-round retrace close-outline last-off pass-from passes surround after-while walk-from walk-closed walked-outline lib.Ieee.add ofInt sub mul div neg toSigned eq lt le digits-of field decimal signed-decimal asked request clipped
 printed = refl
 
 -- the buffer holds `C` and a line feed, then `L` and a carriage return, which is a byte of the line like others; the list has room for one byte

@@ -10,19 +10,16 @@ use Rattle.plane.specs.declared.point.Point64.{Point64}
 use Rattle.plane.specs.declared.rect.Rect64.{Rect64}
 use Rattle.plane.specs.declared.location.Location.{Location}
 use Rattle.plane.specs.declared.location.Spot.{Spot}
-use Rattle.plane.specs.declared.crossing.Search.{Search}
-use Rattle.plane.specs.declared.crossing.Search.the-variants.{Missed, Found}
+use Rattle.plane.specs.declared.crossing.SidePoint.{SidePoint}
 use Rattle.plane.specs.Basics.{ok, _>>=_}
-use Rattle.plane.specs.Intersection.{get-intersection}
 use Rattle.plane.specs.Limit.{Limited}
 use Rattle.plane.specs.Locations.{is-inside, same-location}
 use Rattle.plane.specs.Points.{same-point, pt-at, points-of}
 use Rattle.plane.specs.Rectangle.{mid-point, get-location}
 use Rattle.plane.specs.Signs.{is-clockwise-dir}
 use Rattle.plane.proofs.CrossProduct.{mid-point-limited}
-use Rattle.reference.specs.Walk.{no-room, add, push-start-loc, push-start-locs, add-corners, add-corner-prev-curr, remain-outside, enter, pass-to, pass-through, leave, cross-boundary, pt-before}
+use Rattle.reference.specs.Walk.{no-room, add, push-start-loc, push-start-locs, add-corners, add-corner-prev-curr, second-search, remain-outside, enter, pass-to, pass-through, leave, cross-boundary, pt-before}
 use Rattle.entry.specs.declared.answer.Refusal.{Refusal}
-use Rattle.entry.specs.declared.answer.Refusal.the-variants.{CrossingLost}
 use Rattle.rectclip.specs.declared.walk.WalkState.{WalkState}
 use Rattle.rectclip.specs.declared.walk.Step.{Step}
 use Rattle.rectclip.specs.declared.walk.Step.the-variants.{Walked}
@@ -38,7 +35,7 @@ use Rattle.rectclip.specs.Closing.{pass-of, advance-of, moves-on, first-
 use Rattle.rectclip.proofs.Coordinates.{points-length}
 use Rattle.rectclip.proofs.Limits.{framed}
 use Rattle.rectclip.proofs.Walking.{step-walked}
-use Rattle.rectclip.proofs.Closing.{advance-refused, advance-as, step-as, step-next, step-lost, step-then, step-stops, step-ends, roomed, outside-starts, outside-corners, outside-stays, entry-first, entry-same, entry-corners, entry-parts, leave-parts, corner-passed, corner-none, start-first, start-none, in-parts, out-corner, out-point, pass-parts, through-missed, through-found, crossing-enters, crossing-passes, crossing-leaves}
+use Rattle.rectclip.proofs.Closing.{advance-as, step-as, step-next, step-lost, step-then, step-stops, step-ends, roomed, outside-starts, outside-corners, outside-stays, entry-first, entry-same, entry-corners, entry-parts, leave-parts, corner-passed, corner-none, start-first, start-none, in-parts, out-corner, out-point, pass-parts, through-second, crossing-enters, crossing-passes, crossing-leaves}
 
 -- ---- points within the limit
 pub turn-limited : {rect : Rect64} {c : Pass} {m : Point64} → Closes rect c → m ≡ mid-point rect → LimitedTurn (c .«prev_pt») m (c .pt)
@@ -176,13 +173,9 @@ module _ (rect : Rect64) (store : List ℤ) (work : List ℕ) (c : Pass) (ip : P
         (step-then R e (λ w. pass-out (room store) rect (record { walk = w; loc = x; i = c .i }) (c .pt) ip ip2 (first-of (c .«first_cross») loc))
         (advance-as (roomed k (λ n. pass-out n rect (next-of store₁ work₁ (record { walk = w; loc = x; i = c .i })) (c .pt) ip ip2 (first-of (c .«first_cross») loc))) (rw ef at A)))
 
-  module _ {s : Search} (es : s ≡ get-intersection rect (c .«prev_pt») (c .pt) (c .prev)) where
-    pub lost : s ≡ Missed → Advanced (pass-through (room store) rect (pass-of store work c) ip x) store work (Refused CrossingLost)
-    lost e = advance-refused (through-missed (room store) rect (pass-of store work c) x ip (sym es ∙ e))
-
-    pub found : {ip2 : Point64} {l : Location} → s ≡ Found ip2 l → {store′ : List ℤ} {work′ : List ℕ} {a : Advance}
-        → Advanced (pass-to (room store) rect (pass-of store work c) ip x ip2 l) store′ work′ a → Advanced (pass-through (room store) rect (pass-of store work c) ip x) store′ work′ a
-    found e A = advance-as (through-found (room store) rect (pass-of store work c) x ip (sym es ∙ e)) A
+  pub passed-through : {q : SidePoint} → q ≡ second-search rect (c .«prev_pt») (c .pt) (c .prev) ip → {store′ : List ℤ} {work′ : List ℕ} {a : Advance}
+      → Advanced (pass-to (room store) rect (pass-of store work c) ip x (q .point) (q .side)) store′ work′ a → Advanced (pass-through (room store) rect (pass-of store work c) ip x) store′ work′ a
+  passed-through e A = advance-as (through-second (room store) rect (pass-of store work c) x ip e) A
 
   -- ---- crossing the boundary, by where the segment comes from and goes to
   module _ {b : Bool} (eb : b ≡ is-inside (c .loc)) {store′ : List ℤ} {work′ : List ℕ} {a : Advance} where

@@ -10,15 +10,15 @@ use lib.ListN.{length}
 use Rattle.plane.specs.declared.point.Point64.{Point64}
 use Rattle.plane.specs.declared.rect.Rect64.{Rect64}
 use Rattle.plane.specs.declared.location.Location.{Location}
-use Rattle.plane.specs.declared.crossing.Search.{Search}
 use Rattle.plane.specs.declared.crossing.Search.the-variants.{Missed, Found}
+use Rattle.plane.specs.declared.crossing.SidePoint.{SidePoint}
 use Rattle.plane.specs.Basics.{Try, refuse, ok, _>>=_}
 use Rattle.plane.specs.Intersection.{get-intersection}
 use Rattle.plane.specs.Locations.{is-inside, same-location}
 use Rattle.plane.specs.Points.{same-point, pt-at}
 use Rattle.plane.specs.Rectangle.{mid-point, get-location}
 use Rattle.plane.specs.Signs.{is-clockwise-dir}
-use Rattle.reference.specs.Walk.{Walk, State, no-room, add, push-start-loc, push-start-locs, add-corners, add-corner-prev-curr, remain-outside, enter, pass-to, pass-through, leave, cross-boundary, pt-before, pass-from}
+use Rattle.reference.specs.Walk.{Walk, State, no-room, add, push-start-loc, push-start-locs, add-corners, add-corner-prev-curr, second-search, remain-outside, enter, pass-to, pass-through, leave, cross-boundary, pt-before, pass-from}
 use Rattle.reference.specs.Walk as def
 use Rattle.entry.specs.declared.answer.Refusal.{Refusal}
 use Rattle.entry.specs.Answers.{number}
@@ -137,13 +137,9 @@ module _ (full : ℕ → Bool) (rect : Rect64) (c : def.Pass) where
       unfolding cross-boundary
       crossing-leaves e f = rw (e, f) refl
 
-      pub through-missed : get-intersection rect (c .prev-pt) (c .pt) (c .prev) ≡ Missed → refuse 9 ≡ pass-through full rect c ip x
+      pub through-second : {q : SidePoint} → q ≡ second-search rect (c .prev-pt) (c .pt) (c .prev) ip → pass-to full rect c ip x (q .point) (q .side) ≡ pass-through full rect c ip x
       unfolding pass-through
-      through-missed e = ap (λ (k : Search). elim k [ Missed ↦ refuse 9 | Found ip2 loc ↦ pass-to full rect c ip x ip2 loc ]) (sym e)
-
-      pub through-found : {ip2 : Point64} {l : Location} → get-intersection rect (c .prev-pt) (c .pt) (c .prev) ≡ Found ip2 l → pass-to full rect c ip x ip2 l ≡ pass-through full rect c ip x
-      unfolding pass-through
-      through-found e = ap (λ (k : Search). elim k [ Missed ↦ refuse 9 | Found ip2 loc ↦ pass-to full rect c ip x ip2 loc ]) (sym e)
+      through-second e = ap (λ (q : SidePoint). pass-to full rect c ip x (q .point) (q .side)) e
 
 -- a passing segment: the corner, the start side and the point where it comes in; then where it goes out
 module _ (full : ℕ → Bool) (rect : Rect64) (w : Walk) (x loc : Location) where

@@ -12,26 +12,26 @@ use Rattle.plane.specs.declared.rect.Rect64.{Rect64}
 use Rattle.plane.specs.declared.location.Location.{Location}
 use Rattle.plane.specs.declared.crossing.Search.{Search}
 use Rattle.plane.specs.declared.crossing.Search.the-variants.{Missed, Found}
+use Rattle.plane.specs.declared.crossing.SidePoint.{SidePoint}
 use Rattle.plane.specs.Basics.{Try, ok, _>>=_}
 use Rattle.plane.specs.Intersection.{get-intersection}
 use Rattle.plane.specs.Locations.{is-inside}
 use Rattle.plane.specs.Points.{pt-at, points-of}
-use Rattle.reference.specs.Walk.{Walk, Next, no-room, add}
+use Rattle.reference.specs.Walk.{Walk, Next, no-room, add, second-search}
 use Rattle.reference.specs.Lines.{line-through, line-cross, line-from}
 use Rattle.entry.specs.declared.answer.Refusal.{Refusal}
-use Rattle.entry.specs.declared.answer.Refusal.the-variants.{CrossingLost}
 use Rattle.rectclip.specs.declared.walk.WalkState.{WalkState}
 use Rattle.rectclip.specs.declared.walk.Step.{Step}
 use Rattle.rectclip.specs.declared.walk.Step.the-variants.{Walked, Refused}
 use Rattle.rectclip.specs.declared.next.NextState.{NextState}
 use Rattle.rectclip.specs.declared.next.Move.{Move}
-use Rattle.rectclip.specs.declared.next.Move.the-variants.{To, Stopped}
+use Rattle.rectclip.specs.declared.next.Move.the-variants.{To}
 use Rattle.rectclip.specs.Walking.{walk-of, Fits, Stepped}
 use Rattle.rectclip.specs.Moving.{next-of, Moved}
 use Rattle.rectclip.specs.Crossing.{move-of}
 use Rattle.rectclip.proofs.Coordinates.{points-length}
-use Rattle.rectclip.proofs.Moving.{move-to, move-stopped}
-use Rattle.rectclip.proofs.Passing.{step-moves, step-then, step-stops, through-missed, through-found, cross-enters, cross-passes, cross-exits, from-past, from-missed, from-found}
+use Rattle.rectclip.proofs.Moving.{move-to}
+use Rattle.rectclip.proofs.Passing.{step-moves, step-then, step-stops, through-second, cross-enters, cross-passes, cross-exits, from-past, from-missed, from-found}
 
 -- a goal by another name
 abbrev by : {g h : Try Next} {from : ℕ} {store : List ℤ} {work : List ℕ} {m : Move} → g ≡ h → Moved g from store work m → Moved h from store work m
@@ -48,21 +48,14 @@ module _ (rect : Rect64) (store : List ℤ) (work : List ℕ) (nx : NextState) (
   abbrev here : Next
   here = next-of store work nx
 
-  module _ {f : Search} (ef : f ≡ get-intersection rect prev-pt pt prev) where
-    pub through-none : f ≡ Missed → Moved (line-through full rect here prev prev-pt pt ip) (nx .i) store work (Stopped CrossingLost)
-    through-none e = move-stopped (through-missed full rect here prev prev-pt pt ip (sym ef ∙ e))
+  module _ {p : SidePoint} (e : p ≡ second-search rect prev-pt pt prev ip) {store1 : List ℤ} {work1 : List ℕ} {r : Step} (R : Stepped (add full (walk-of store work (nx .walk)) (p .point) true) store1 work1 r) where
+    pub through-stop : (k : Refusal) → r ≡ Refused k → {m : Move} → m ≡ move-of r (nx .loc) (nx .i) → Moved (line-through full rect here prev prev-pt pt ip) (nx .i) store1 work1 m
+    through-stop k q em = rw em (by (through-second full rect here prev prev-pt pt ip e) (step-stops R q (λ w. add full w ip false >>= beside nx) (nx .loc) (nx .i)))
 
-    module _ {ip2 : Point64} {l : Location} (e : f ≡ Found ip2 l) {store1 : List ℤ} {work1 : List ℕ} {r : Step} (R : Stepped (add full (walk-of store work (nx .walk)) ip2 true) store1 work1 r) where
-      pub through-stop : (k : Refusal) → r ≡ Refused k → {m : Move} → m ≡ move-of r (nx .loc) (nx .i) → Moved (line-through full rect here prev prev-pt pt ip) (nx .i) store1 work1 m
-      through-stop k q em = rw em (by (through-found full rect here prev prev-pt pt ip (sym ef ∙ e)) (step-stops R q (λ w. add full w ip false >>= beside nx) (nx .loc) (nx .i)))
-
-      pub through-go : (w : WalkState) → r ≡ Walked w → length store1 ≡ length store → {store2 : List ℤ} {work2 : List ℕ} {r2 : Step}
-          → Stepped (add (no-room (length store1 / 2)) (walk-of store1 work1 w) ip false) store2 work2 r2 → {m : Move} → m ≡ move-of r2 (nx .loc) (nx .i)
-          → Moved (line-through full rect here prev prev-pt pt ip) (nx .i) store2 work2 m
-      through-go w q a R2 em =
-          rw em
-          (by (through-found full rect here prev prev-pt pt ip (sym ef ∙ e))
-          (step-then R q (λ w. add full w ip false >>= beside nx) (step-moves (rw a at R2) (nx .loc) (nx .i))))
+    pub through-go : (w : WalkState) → r ≡ Walked w → length store1 ≡ length store → {store2 : List ℤ} {work2 : List ℕ} {r2 : Step}
+        → Stepped (add (no-room (length store1 / 2)) (walk-of store1 work1 w) ip false) store2 work2 r2 → {m : Move} → m ≡ move-of r2 (nx .loc) (nx .i)
+        → Moved (line-through full rect here prev prev-pt pt ip) (nx .i) store2 work2 m
+    through-go w q a R2 em = rw em (by (through-second full rect here prev prev-pt pt ip e) (step-then R q (λ w. add full w ip false >>= beside nx) (step-moves (rw a at R2) (nx .loc) (nx .i))))
 
   pub entered : is-inside (nx .loc) ≡ true → {store1 : List ℤ} {work1 : List ℕ} {r : Step} → Stepped (add full (walk-of store work (nx .walk)) ip true) store1 work1 r → {m : Move} → m ≡ move-of r (nx .loc) (nx .i)
       → Moved (line-cross full rect here prev prev-pt pt ip) (nx .i) store1 work1 m

@@ -14,12 +14,13 @@ use Rattle.plane.specs.declared.rect.Rect64.{Rect64}
 use Rattle.plane.specs.declared.location.Location.{Location}
 use Rattle.plane.specs.declared.location.Spot.{Spot}
 use Rattle.plane.specs.declared.crossing.Search.the-variants.{Missed, Found}
+use Rattle.plane.specs.declared.crossing.SidePoint.{SidePoint}
 use Rattle.plane.specs.Basics.{Try, refuse, ok, _>>=_}
 use Rattle.plane.specs.Intersection.{get-intersection}
 use Rattle.plane.specs.Locations.{is-inside}
 use Rattle.plane.specs.Points.{origin, pt-at, points-of}
 use Rattle.plane.specs.Rectangle.{get-location}
-use Rattle.reference.specs.Walk.{Walk, Next, no-room, add}
+use Rattle.reference.specs.Walk.{Walk, Next, no-room, add, second-search}
 use Rattle.reference.specs.Lines.{first-off-edge, line-through, line-cross, line-from, line-passes}
 use Rattle.entry.specs.declared.answer.Refusal.{Refusal}
 use Rattle.entry.specs.Answers.{number}
@@ -94,14 +95,10 @@ module _ {rect : Rect64} {path : List ℤ} {i : ℕ} (I : Seeking rect path i) w
 
 -- ---- a crossing, by its cases
 module _ (full : ℕ → Bool) (rect : Rect64) (nx : Next) (prev : Location) (prev-pt pt ip : Point64) where
-  pub through-missed : get-intersection rect prev-pt pt prev ≡ Missed → refuse 9 ≡ line-through full rect nx prev prev-pt pt ip
+  pub through-second : {q : SidePoint} → q ≡ second-search rect prev-pt pt prev ip
+      → (add full (nx .walk) (q .point) true >>= λ w. add full w ip false >>= λ v. ok (record { walk = v; loc = nx .loc; i = nx .i })) ≡ line-through full rect nx prev prev-pt pt ip
   unfolding line-through
-  through-missed e = rw (e, line-through) refl
-
-  pub through-found : {ip2 : Point64} {l : Location} → get-intersection rect prev-pt pt prev ≡ Found ip2 l
-      → (add full (nx .walk) ip2 true >>= λ w. add full w ip false >>= λ v. ok (record { walk = v; loc = nx .loc; i = nx .i })) ≡ line-through full rect nx prev prev-pt pt ip
-  unfolding line-through
-  through-found e = rw (e, line-through) refl
+  through-second e = ap (λ (q : SidePoint). add full (nx .walk) (q .point) true >>= λ w. add full w ip false >>= λ v. ok (record { walk = v; loc = nx .loc; i = nx .i })) e
 
   pub cross-enters : is-inside (nx .loc) ≡ true → (add full (nx .walk) ip true >>= λ w. ok (record { walk = w; loc = nx .loc; i = nx .i })) ≡ line-cross full rect nx prev prev-pt pt ip
   unfolding line-cross

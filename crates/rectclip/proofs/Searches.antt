@@ -1,18 +1,20 @@
 -- The search over the edges, as the code goes through them: the first edge that has a crossing answers. Assumes nothing.
 use mathlib.Core.Path.{_≡_, refl, sym, ap, _∙_, subst}
+use mathlib.Core.Bool.{false}
 use Rattle.plane.specs.Limit.{Limited, AllLimited, LimitedRect}
 use Rattle.plane.specs.Points.{pt-at}
-use Rattle.plane.specs.Rectangle.{as-path}
+use Rattle.plane.specs.Rectangle.{as-path, is-empty}
 use Rattle.plane.specs.Locations.{lower, upper}
-use Rattle.plane.specs.Intersection.{edge-from, edge-to, edge-intersection, side-intersection, get-intersection, _or-else_}
+use Rattle.plane.specs.Intersection.{edge-from, edge-to, edge-intersection, side-intersection, get-intersection, found-or, _or-else_}
 use Rattle.plane.specs.declared.crossing.Search.{Search}
 use Rattle.plane.specs.declared.crossing.Search.the-variants.{Missed, Found}
 use Rattle.plane.specs.declared.location.Location.{Location}
 use Rattle.plane.specs.declared.location.Location.the-variants.{Left, Top, Right, Bottom, Inside}
 use Rattle.plane.specs.declared.point.Point64.{Point64}
 use Rattle.plane.specs.declared.rect.Rect64.{Rect64}
+use Rattle.reference.specs.Walk.{second-search}
 use Rattle.theorems.proofs.Search.{found-outside, outside-across, outside-down}
-use Rattle.rectclip.specs.Bounds.{SearchLimits, InReach}
+use Rattle.rectclip.specs.Bounds.{Reached, SearchLimits, InReach}
 use Rattle.rectclip.specs.Parted.{beyond-intersection}
 
 -- a search that found something answers, and one that missed leaves the answer to the next
@@ -106,3 +108,12 @@ in-reach {r} {p} {p2} loc h e = record {
   outside = λ n q s f. found-outside r (h .rect) n p p2 (h .start) (h .end) loc q s (sym e ∙ f);
   reached = λ n q s f. let o = found-outside r (h .rect) n p p2 (h .start) (h .end) loc q s (sym e ∙ f) in record { across = outside-across (h .rect) o; down = outside-down (h .rect) o };
 }
+
+-- the second search of a passing segment: what it found, or the first search's point, is in reach
+pub second-reached : {r : Rect64} {x : Search} (ip : Point64) (prev : Location) → is-empty r ≡ false → InReach r x → Reached ip → Reached (found-or x ip prev .point)
+second-reached {x = Missed} ip prev n f h = h
+second-reached {x = Found q s} ip prev n f h = f .reached n q s refl
+
+pub second-is : (r : Rect64) (prev-pt pt : Point64) (prev : Location) (ip : Point64) {x : Search} → x ≡ get-intersection r prev-pt pt prev → found-or x ip prev ≡ second-search r prev-pt pt prev ip
+unfolding second-search
+second-is r prev-pt pt prev ip e = ap (λ (x : Search). found-or x ip prev) e

@@ -43,6 +43,12 @@ pub record SearchLimits (r : Rect64) (p p2 : Point64) : Type 0 where
   pub start : Limited p
   pub end : Limited p2
 
+-- what the second search asks: the same, of a rectangle that is not empty, and that the first search's point is in reach
+pub record SecondSearch (r : Rect64) (prev-pt pt ip : Point64) : Type 0 where
+  pub extent : is-empty r ≡ false
+  pub limits : SearchLimits r prev-pt pt
+  pub at : Reached ip
+
 -- a point that a search found, of a rectangle that is not empty, is at most one unit outside the rectangle
 pub record InReach (r : Rect64) (s : Search) : Type 0 where
   pub outside : is-empty r ≡ false → (q : Point64) (loc : Location) → s ≡ Found q loc → AtMostOneOutside r q

@@ -19,6 +19,7 @@ use crate::next::Move;
 use crate::next::NextState;
 use crate::next::get_next_location;
 use crate::search::get_intersection;
+use crate::search::second_search;
 use crate::segment::is_clockwise_dir;
 use crate::walk::Step;
 use crate::walk::WalkState;
@@ -321,7 +322,7 @@ fn pass_to(
     }
 }
 
-// The second search of a passing segment; 9 where it finds nothing.
+// "passing right through rect", out at `ip` on side `crossing_loc`: in where the second search finds the segment.
 fn pass_through(
     rect: Rect64,
     store: &mut [i64],
@@ -336,10 +337,10 @@ fn pass_through(
     let prev = c.prev;
     let prev_pt = c.prev_pt;
     let pt = c.pt;
-    match get_intersection(rect, prev_pt, pt, prev) {
-        Search::Missed => Advance::Refused(Refusal::CrossingLost),
-        Search::Found(ip2, loc) => { pass_to(rect, store, work, c, ip, crossing_loc, ip2, loc) }
-    }
+    let second = second_search(rect, prev_pt, pt, prev, ip);
+    let ip2 = second.point;
+    let loc = second.side;
+    pass_to(rect, store, work, c, ip, crossing_loc, ip2, loc)
 }
 
 // "path must be exiting rect", at `ip`.

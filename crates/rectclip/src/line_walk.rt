@@ -14,11 +14,11 @@ use crate::next::Move;
 use crate::next::NextState;
 use crate::next::get_next_location;
 use crate::search::get_intersection;
+use crate::search::second_search;
 use crate::walk::Step;
 use crate::walk::WalkState;
 use crate::walk::add;
 use crate::walk::add_all;
-use entry::answer::Refusal;
 use plane::crossing::Search;
 use plane::location::Location;
 use plane::point::Point64;
@@ -65,7 +65,7 @@ fn step_of(m: Move) -> Step
     }
 }
 
-// Passing right through the rectangle: in where the second search finds, out at `ip`.
+// "passing right through rect": in where the second search finds the segment, out at `ip`.
 fn line_through(
     rect: Rect64,
     store: &mut [i64],
@@ -82,9 +82,8 @@ fn line_through(
     let walk = nx.walk;
     let loc = nx.loc;
     let i = nx.i;
-    let Search::Found(ip2, _) = get_intersection(rect, prev_pt, pt, prev) else {
-        return Move::Stopped(Refusal::CrossingLost);
-    };
+    let second = second_search(rect, prev_pt, pt, prev, ip);
+    let ip2 = second.point;
     let r = add(store, work, walk, ip2, true);
     let Step::Walked(w) = r else {
         return move_of(r, loc, i);

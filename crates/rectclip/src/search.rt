@@ -9,12 +9,14 @@ ghost use Rattle.plane.specs.Points.{pt-at};
 ghost use Rattle.plane.specs.Rectangle.{as-path};
 ghost use Rattle.plane.specs.declared.location.Location.the-variants.{Inside};
 ghost use Rattle.plane.specs.declared.crossing.Meeting.the-variants.{Met, Apart};
-ghost use Rattle.rectclip.specs.Bounds.{SearchLimits, InReach};
+ghost use Rattle.reference.specs.Walk.{second-search};
+ghost use Rattle.rectclip.specs.Bounds.{Reached, SearchLimits, InReach, SecondSearch};
 ghost use Rattle.rectclip.specs.Parted.{edge-ends, beyond-intersection};
 use crate::segment::cross_product_sign;
 use crate::segment::get_segment_intersect_pt;
 use plane::crossing::Meeting;
 use plane::crossing::Search;
+use plane::crossing::SidePoint;
 use plane::direction::is_horizontal;
 use plane::location::Location;
 use plane::point::Point64;
@@ -189,4 +191,19 @@ pub(crate) fn get_intersection(rect: Rect64, p: Point64, p2: Point64, loc: Locat
         Location::Bottom => side_intersection(rect, Location::Bottom, p, p2),
         Location::Inside => inside_intersection(rect, p, p2),
     }
+}
+
+// The second search of a segment that passes right through, from prev_pt to pt, whose first one found ip: where the segment comes in.
+pub(crate) fn second_search(
+    rect: Rect64,
+    prev_pt: Point64,
+    pt: Point64,
+    prev: Location,
+    ip: Point64,
+) -> SidePoint
+    requires { ⌜ SecondSearch rect «prev_pt» pt ip ⌝ }
+    ensures is { λ r. ⌜ r ≡ second-search rect «prev_pt» pt prev ip ⌝ }
+    ensures near { λ r. ⌜ Reached (r .point) ⌝ }
+{
+    get_intersection(rect, prev_pt, pt, prev).found_or(ip, prev)
 }

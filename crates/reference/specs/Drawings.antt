@@ -19,7 +19,7 @@ use Rattle.reference.specs.Clip.{enter-all, arena-of, straighten-pass, s
 use Rattle.reference.specs.Entry.{sheet-refusal, early-refusal, delivered, answered, clip-closed, clip-open, filled-part, is-present, Lent, Outcome, refused, drawn}
 use Rattle.reference.specs.Lines.{first-off-edge, line-through, line-cross, line-from, line-passes, line-walk-from, walk-open, pieces, longer-than-one, execute-lines}
 use Rattle.reference.specs.Tidy.{seek, relink, regroup, keep-one, keep-both, keep-each, settle, rejoin, one-turn, turns-from, tidy-edges}
-use Rattle.reference.specs.Walk.{add, add-all, push-start-loc, next-side, next-outside, add-corner-prev-curr, add-corner-loc, add-corners, push-start-locs, next-inside, get-next-location, remain-outside, enter, pass-to, pass-through, leave, cross-boundary, add-round, retrace, close-outline, last-off, pass-from, passes, surround, after-while, walk-from, walk-closed, walked-outline}
+use Rattle.reference.specs.Walk.{add, add-all, push-start-loc, next-side, next-outside, add-corner-prev-curr, add-corner-loc, add-corners, push-start-locs, next-inside, get-next-location, second-search, remain-outside, enter, pass-to, pass-through, leave, cross-boundary, add-round, retrace, close-outline, last-off, pass-from, passes, surround, after-while, walk-from, walk-closed, walked-outline}
 use lib.Ieee.{ofInt, sub, mul, div, neg, toSigned, eq, lt, le}
 
 abbrev minus : ℕ → ℤ
@@ -111,5 +111,5 @@ further =
 
 -- each drawing is answered as document 01 says
 pub drawings : map shown (table ++ further) ≡ map (λ c. c .expected) (table ++ further)
-unfolding at-end get-segment-intersection edge-intersection side-intersection get-intersection start-locs-are-clockwise at-vertex scan-pass scan-answer scan-loop point-in-polygon path1-contains-path2 get-bounds-path get-location determinant numerator fraction workingOf crossingOf pointAt intersection cross-product-sign is-collinear cross-product-three-points cross-product-is-negative is-clockwise-dir set-owner set-edge set-next set-prev set-results set-edge-list ring unlink add-to-edge struck uncouple-edge own-from set-new-owner drop-collinear-pass drop-collinear assign-side assign-edges check-ring check-from check-edges enter-all arena-of straighten-pass straighten points-from get-path get-paths clip-walked execute sheet-refusal early-refusal delivered answered clip-closed clip-open filled-part is-present first-off-edge line-through line-cross line-from line-passes line-walk-from walk-open pieces longer-than-one execute-lines seek relink regroup keep-one keep-both keep-each settle rejoin one-turn turns-from tidy-edges add add-all push-start-loc next-side next-outside add-corner-prev-curr add-corner-loc add-corners push-start-locs next-inside get-next-location remain-outside enter pass-to pass-through leave cross-boundary add-round retrace close-outline last-off pass-from passes surround after-while walk-from walk-closed walked-outline lib.Ieee.add ofInt sub mul div neg toSigned eq lt le
+unfolding at-end get-segment-intersection edge-intersection side-intersection get-intersection start-locs-are-clockwise at-vertex scan-pass scan-answer scan-loop point-in-polygon path1-contains-path2 get-bounds-path get-location determinant numerator fraction workingOf crossingOf pointAt intersection cross-product-sign is-collinear cross-product-three-points cross-product-is-negative is-clockwise-dir set-owner set-edge set-next set-prev set-results set-edge-list ring unlink add-to-edge struck uncouple-edge own-from set-new-owner drop-collinear-pass drop-collinear assign-side assign-edges check-ring check-from check-edges enter-all arena-of straighten-pass straighten points-from get-path get-paths clip-walked execute sheet-refusal early-refusal delivered answered clip-closed clip-open filled-part is-present first-off-edge line-through line-cross line-from line-passes line-walk-from walk-open pieces longer-than-one execute-lines seek relink regroup keep-one keep-both keep-each settle rejoin one-turn turns-from tidy-edges add add-all push-start-loc next-side next-outside add-corner-prev-curr add-corner-loc add-corners push-start-locs next-inside get-next-location second-search remain-outside enter pass-to pass-through leave cross-boundary add-round retrace close-outline last-off pass-from passes surround after-while walk-from walk-closed walked-outline lib.Ieee.add ofInt sub mul div neg toSigned eq lt le
 drawings = refl

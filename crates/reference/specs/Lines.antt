@@ -10,11 +10,11 @@ use Rattle.plane.specs.declared.location.Location.{Location}
 use Rattle.plane.specs.declared.location.Location.the-variants.{Inside}
 use Rattle.plane.specs.declared.crossing.Search.{Search}
 use Rattle.plane.specs.declared.crossing.Search.the-variants.{Missed, Found}
-use Rattle.plane.specs.Basics.{if_then_else_, Try, refuse, ok, _>>=_}
+use Rattle.plane.specs.Basics.{if_then_else_, Try, ok, _>>=_}
 use Rattle.plane.specs.Points.{pt-at}
 use Rattle.plane.specs.Rectangle.{is-empty, intersects, get-bounds-path, get-location}
 use Rattle.plane.specs.Intersection.{get-intersection}
-use Rattle.reference.specs.Walk.{Walk, nothing-yet, add, add-all, Next, get-next-location}
+use Rattle.reference.specs.Walk.{Walk, nothing-yet, add, add-all, Next, get-next-location, second-search}
 use Rattle.plane.specs.Locations.{is-inside}
 use Rattle.reference.specs.Counts.{line-walk-passes}
 
@@ -27,13 +27,11 @@ first-off-edge rect (p ∷ rest) =
     if s .off then Found p (s .loc) else after
 
 module _ (full : ℕ → Bool) (rect : Rect64) where
-  -- "passing right through rect": refusal 9 where the second search finds nothing
+  -- "passing right through rect": in where the second search finds the segment, out at ip
   unfoldable pub line-through : Next → Location → Point64 → Point64 → Point64 → Try Next
   line-through nx prev prev-pt pt ip =
-      elim (get-intersection rect prev-pt pt prev) [
-        | Missed ↦ refuse 9
-        | Found ip2 loc ↦ add full (nx .walk) ip2 true >>= λ w. add full w ip false >>= λ v. ok (record { walk = v; loc = nx .loc; i = nx .i })
-      ]
+      let second = second-search rect prev-pt pt prev ip in
+      add full (nx .walk) (second .point) true >>= λ w. add full w ip false >>= λ v. ok (record { walk = v; loc = nx .loc; i = nx .i })
 
   -- a crossing is found at ip: entering, passing right through, or exiting
   unfoldable pub line-cross : Next → Location → Point64 → Point64 → Point64 → Try Next

@@ -10,11 +10,12 @@ use Rattle.plane.specs.declared.location.Location.{Location}
 use Rattle.plane.specs.declared.location.Location.the-variants.{Left, Top, Right, Bottom, Inside}
 use Rattle.plane.specs.declared.crossing.Search.{Search}
 use Rattle.plane.specs.declared.crossing.Search.the-variants.{Missed, Found}
+use Rattle.plane.specs.declared.crossing.SidePoint.{SidePoint}
 use Rattle.plane.specs.Basics.{if_then_else_, push, is-nil, lead, Try, refuse, ok, _>>=_}
 use Rattle.plane.specs.Locations.{is-inside, same-location, side, opposite, lower, upper, get-adjacent-location, heading-clockwise, start-locs-are-clockwise}
 use Rattle.plane.specs.Points.{pt-at, same-point}
 use Rattle.plane.specs.Rectangle.{as-path, mid-point, contains-point, get-bounds-path, get-location, corner, beyond, beyond-or-on}
-use Rattle.plane.specs.Intersection.{get-intersection}
+use Rattle.plane.specs.Intersection.{get-intersection, found-or}
 use Rattle.plane.specs.Signs.{is-clockwise-dir}
 use Rattle.plane.specs.Polygon.{path1-contains-path2}
 use Rattle.reference.specs.Counts.{corner-steps, walk-passes}
@@ -125,6 +126,12 @@ module _ (full : ℕ → Bool) (rect : Rect64) where
   get-next-location path w Bottom i = ok (next-outside rect path w Bottom i)
   get-next-location path w Inside i = next-inside w i (drop i path)
 
+-- ---- The second `get_intersection` of a segment that passes right through, from prev-pt to pt, whose first one found ip. Before it the Rust has
+-- `prev` as the side, which a search that finds nothing leaves, and 0, 0 in `ip2`, over which a failed test may write an end or a corner. It never
+-- finds nothing where a call comes to it (`SecondSearchFinds` in theorems/specs/SecondSearch.antt); here ip would stand for the point.
+unfoldable pub second-search : Rect64 → Point64 → Point64 → Location → Point64 → SidePoint
+second-search rect prev-pt pt prev ip = found-or (get-intersection rect prev-pt pt prev) ip prev
+
 -- ---- `RectClip64::execute_internal`
 -- what a pass of its `while` hands to the next
 pub record State : Type 0 where
@@ -187,10 +194,11 @@ module _ (full : ℕ → Bool) (rect : Rect64) where
       if same-point ip ip2 then (add-corner-prev-curr full rect u crossing-loc on >>= after on)
       else (add full u ip false >>= after crossing-loc)
 
-  -- refusal 9 where the second search finds nothing
+  -- in where the second search finds the segment, out where the first one did
   unfoldable pub pass-through : Pass → Point64 → Location → Try State
   pass-through c ip crossing-loc =
-      elim (get-intersection rect (c .prev-pt) (c .pt) (c .prev)) [ Missed ↦ refuse 9 | Found ip2 loc ↦ pass-to c ip crossing-loc ip2 loc ]
+      let second = second-search rect (c .prev-pt) (c .pt) (c .prev) ip in
+      pass-to c ip crossing-loc (second .point) (second .side)
 
   -- "path must be exiting rect", at ip
   unfoldable pub leave : Pass → Point64 → Location → Try State
@@ -286,7 +294,7 @@ module _ (full : ℕ → Bool) (rect : Rect64) (path : List Point64) where
       else if at-last .off then walk-from (at-last .loc)
       else from-edge
 
--- The walked outline of a rectangle and a closed path. With room for all points the walk is never refused within the coordinate limit
--- (`OutlineDrawn` in theorems/specs/Outline.antt); beyond it a refused walk has the empty list here.
+-- The walked outline of a rectangle and a closed path. With room for all points no walk is refused: the case of a refusal never comes (`OutlineDrawn`
+-- in theorems/specs/Outline.antt).
 unfoldable pub walked-outline : Rect64 → List Point64 → List Point64
 walked-outline rect path = elim (walk-closed unlimited rect path) [ refuse n ↦ [] | ok w ↦ w .walk .points ]

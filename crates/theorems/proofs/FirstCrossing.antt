@@ -24,7 +24,8 @@ use Rattle.plane.specs.Rectangle.{get-location, mid-point, as-path, beyond, bey
 use Rattle.plane.specs.Intersection.{edge-from, edge-to, get-segment-intersection, met, edge-intersection, side-intersection, get-intersection}
 use Rattle.plane.specs.Signs.{is-clockwise-dir}
 use Rattle.reference.specs.Walk.{Walk, add, push-start-loc, add-corner-prev-curr, add-corners, push-start-locs, next-side, State, Pass, remain-outside, enter, pass-to, pass-through, leave, cross-boundary, pt-before}
-use Rattle.theorems.proofs.Holds.{Holds, refused, held, bind, either, by-search, anything, or-cases, guarded}
+use Rattle.theorems.proofs.Holds.{Holds, refused, held, bind, either, anything, or-cases, guarded, by-second-search}
+use Rattle.theorems.proofs.Tests.{not-false}
 
 -- The one fact of geometry that the area equation asks for (proved in Entering): where the walk comes from a point on or beyond side s to a point strictly inside, the search for a crossing finds one.
 -- walkgeo proves this of its own search (`Search.enter`: strictly inside, and on or beyond a side); left is that this search misses only where that one does. For a crossing
@@ -100,7 +101,8 @@ module _ (full : ℕ → Bool) (rect : Rect64) where
   cross-out c ip l h =
       either NotIn (is-inside (c .loc)) _ _ (λ e. enter-out c ip l h)
       (λ e. either NotIn (not (is-inside (c .prev))) _ _
-      (λ g. by-search NotIn (get-intersection rect (c .prev-pt) (c .pt) (c .prev)) _ _ (λ z. refused) (λ ip2 l2 m. pass-out c ip l ip2 l2 (found-side rect (c .prev-pt) (c .pt) ip2 l2 (c .prev) m)))
+      (λ g. by-second-search (λ ip2 l2. Holds NotIn (pass-to full rect c ip l ip2 l2)) rect (c .prev-pt) (c .pt) (c .prev) ip (pass-out c ip l ip (c .prev) (not-false (is-inside (c .prev)) g))
+      (λ ip2 l2 m. pass-out c ip l ip2 l2 (found-side rect (c .prev-pt) (c .pt) ip2 l2 (c .prev) m)))
       (λ g. leave-out c ip l h))
 
   pub remain-out : (c : Pass) → is-inside (c .first-cross) ≡ false → Holds NotIn (remain-outside full rect c)

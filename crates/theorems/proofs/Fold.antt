@@ -1,6 +1,6 @@
 -- The closed walk without a count: by recursion on the points, each of which is met once. The loop of the definitions, with its count, is this fold.
 use mathlib.Core.Path.{_≡_, refl, sym, _∙_, ap, subst}
-use mathlib.Core.Bool.{Bool, true, false, cond, not, _&&_}
+use mathlib.Core.Bool.{Bool, true, false, cond}
 use mathlib.Core.List.{List, [], _∷_}
 use Prim.Native.Nat.{ℕ, zero, suc, _+_, _-_, _<_, _≤_}
 use native.Mathlib.Omega.{arith}
@@ -19,16 +19,15 @@ use Rattle.plane.specs.declared.crossing.Search.the-variants.{Missed, Found}
 use Rattle.plane.specs.Basics.{if_then_else_, lead, Try, refuse, ok, _>>=_}
 use Rattle.plane.specs.Points.{origin, pt-at}
 use Rattle.plane.specs.Locations.{same-location, is-inside}
-use Rattle.plane.specs.Rectangle.{mid-point, beyond-or-on}
+use Rattle.plane.specs.Rectangle.{beyond-or-on}
 use Rattle.plane.specs.Intersection.{get-intersection}
-use Rattle.plane.specs.Signs.{is-clockwise-dir}
-use Rattle.reference.specs.Walk.{Walk, add, push-start-locs, add-corners, Next, next-side, next-outside, next-inside, get-next-location, State, Pass, remain-outside, cross-boundary, pt-before, pass-from, passes}
-use Rattle.theorems.proofs.Holds.{Holds, refused, held, bind, either, All, all-at, anything}
+use Rattle.reference.specs.Walk.{Walk, add, Next, next-side, next-outside, next-inside, get-next-location, State, Pass, remain-outside, cross-boundary, pt-before, pass-from, passes}
+use Rattle.theorems.proofs.Holds.{Holds, refused, held, bind, All, all-at, anything, holds-map}
 use Rattle.theorems.proofs.GeoPlane.{loc, Proper}
 use Rattle.theorems.proofs.GeoWalk.{Step, skip, stop, step}
 use Rattle.theorems.proofs.GeoProgress.{In, Stop, Steps, goes, halts, steps, skips-in}
 use Rattle.theorems.proofs.NextPoints.{Rest, rest-of, first-of, others-of}
-use Rattle.theorems.proofs.Passes.{Stays, cross-stays, before-limited}
+use Rattle.theorems.proofs.Passes.{Stays, cross-stays, before-limited, remain-goes-on}
 use Rattle.theorems.proofs.WalkOver.{walk-over}
 use Rattle.theorems.proofs.FoldPoints.{next-location, go-past, at-point, walk-on, after, next-is, past-next, differ, lt-yes, lt-no, le-yes, le-no, cond-no}
 
@@ -198,13 +197,7 @@ module _ (full : ℕ → Bool) (r : Rect64) (path : List Point64) where
   Nexts i t = t .i ≡ i + 1
 
   remain-next : (c : Pass) → Holds (Nexts (c .i)) (remain-outside full r c)
-  unfolding remain-outside
-  remain-next c =
-      either (Nexts (c .i)) (is-inside (c .crossing-prev)) _ _
-      (λ _. bind Any (Nexts (c .i)) (push-start-locs full r 4 (c .walk) (c .prev) (c .loc) (is-clockwise-dir (c .prev) (c .loc) (c .prev-pt) (c .pt) (mid-point r))) _ (anything _) (λ w _. held refl))
-      (λ _. either (Nexts (c .i)) (not (is-inside (c .prev)) && not (same-location (c .prev) (c .loc))) _ _
-      (λ _. bind Any (Nexts (c .i)) (add-corners full r 4 (c .walk) (c .prev) (c .loc) (is-clockwise-dir (c .prev) (c .loc) (c .prev-pt) (c .pt) (mid-point r))) _ (anything _) (λ w _. held refl))
-      (λ _. held refl))
+  remain-next c = holds-map (λ t g. g .0) (remain-goes-on full r c)
 
   past-next-i : (p : Point64) (s : State) → Holds (Nexts (s .i)) (go-past full r p s)
   unfolding go-past

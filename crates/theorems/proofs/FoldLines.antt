@@ -16,9 +16,9 @@ use Rattle.plane.specs.Basics.{if_then_else_, Try, ok, _>>=_}
 use Rattle.plane.specs.Points.{pt-at}
 use Rattle.plane.specs.Locations.{same-location, is-inside}
 use Rattle.plane.specs.Intersection.{get-intersection}
-use Rattle.reference.specs.Walk.{Walk, add, Next, get-next-location}
+use Rattle.reference.specs.Walk.{Walk, add, Next, get-next-location, second-search}
 use Rattle.reference.specs.Lines.{line-through, line-cross, line-from, line-passes}
-use Rattle.theorems.proofs.Holds.{Holds, refused, held, bind, either, by-search, anything}
+use Rattle.theorems.proofs.Holds.{Holds, held, bind, either, anything}
 use Rattle.theorems.proofs.GeoWalk.{skip, stop, step}
 use Rattle.theorems.proofs.GeoProgress.{In, Stop, Steps, goes, halts, steps, skips-in}
 use Rattle.theorems.proofs.NextPoints.{Rest, rest-of, first-of, others-of}
@@ -55,8 +55,7 @@ module _ (full : ℕ → Bool) (r : Rect64) (path : List Point64) where
   cross-stays nx prev q p ip =
       either (StaysAt nx) (is-inside (nx .loc)) _ _ (λ _. bind Any (StaysAt nx) (add full (nx .walk) ip true) _ (anything _) (λ w _. held (refl, refl)))
       (λ _. either (StaysAt nx) (not (is-inside prev)) _ _
-      (λ _. by-search (StaysAt nx) (get-intersection r q p prev) _ _ (λ _. refused)
-      (λ ip2 l e. bind Any (StaysAt nx) (add full (nx .walk) ip2 true) _ (anything _) (λ w _. bind Any (StaysAt nx) (add full w ip false) _ (anything _) (λ v _. held (refl, refl)))))
+      (λ _. bind Any (StaysAt nx) (add full (nx .walk) (second-search r q p prev ip .point) true) _ (anything _) (λ w _. bind Any (StaysAt nx) (add full w ip false) _ (anything _) (λ v _. held (refl, refl))))
       (λ _. bind Any (StaysAt nx) (add full (nx .walk) ip false) _ (anything _) (λ w _. held (refl, refl))))
 
   abbrev Nexts : ℕ → Next → Type 0

@@ -196,7 +196,7 @@ located-in r p =
     no-edge nl nr nt nb a b c d onRight o = never (and-all (eq-eqZ (p .x) (r .right) (omega (zint, sub-pn (r .right) (p .x)))) (le-leZ (r .top) (p .y) c) (le-leZ (p .y) (r .bottom) d)) nr
     no-edge nl nr nt nb a b c d onBottom o = never (and-all (eq-eqZ (p .y) (r .bottom) (omega (zint, sub-pn (r .bottom) (p .y)))) (le-leZ (r .left) (p .x) a) (le-leZ (p .x) (r .right) b)) nb
 
-same-refl : (p : Point64) → samePt p p ≡ true
+pub same-refl : (p : Point64) → samePt p p ≡ true
 same-refl p = λ i. eq-eqZ (p .x) (p .x) refl i && eq-eqZ (p .y) (p .y) refl i
 
 point-known : (f : Calc) (r : Rect64) (p q : Point64) (s : Side) (b : Bool) (e : Point64) → point f r p q s (known? b e) ≡ point f r q p s (known? b e)

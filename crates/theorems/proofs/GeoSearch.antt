@@ -69,8 +69,8 @@ seek r k p q s = go (met-decides r k s p q) (lt-or-le (depth r (second s) p) (po
         clash a b = omega zint
 
 -- found, unless the segment meets none of the sides that are tried
-pub found-or : (r : Rect64) → Proper r → (p q : Point64) (s : Side) → Finds r p q (loc s) ⊎ FindsNone r p q s
-found-or r k p q s = go (seek r k p q s)
+pub finds-or-none : (r : Rect64) → Proper r → (p q : Point64) (s : Side) → Finds r p q (loc s) ⊎ FindsNone r p q s
+finds-or-none r k p q s = go (seek r k p q s)
   where
     go : Seek r p q s → Finds r p q (loc s) ⊎ FindsNone r p q s
     go (own e m) = inl (record { side = s; at = e; meets = m })
@@ -148,7 +148,7 @@ enter r k p q i o = go (inside-or r k p q)
 
 -- ---- leaving: from p strictly beyond s toward q in the closed rectangle, the search from s finds a side, and p lies on or beyond it
 pub leave : (r : Rect64) → Proper r → (p q : Point64) (s : Side) → depth r s p <ℤ pos 0 → Closed r q → Finds r p q (loc s)
-leave r k p q s n c = go (found-or r k p q s)
+leave r k p q s n c = go (finds-or-none r k p q s)
   where
     cut : FindsNone r p q s → ⊥
     cut f = pick (leaves (around r k s p q) n (c s) (c (opposite s)) (c (second s)) (c (last s)))
@@ -218,7 +218,7 @@ place onBottom onBottom = inl refl
 -- ---- G3, the way back: where the segment meets any side at all, q lies on or beyond s and p strictly within it, the search
 -- from q at s finds a side
 pub back : (r : Rect64) → Proper r → (p q : Point64) (s t : Side) → Beyond r s q → pos 0 <ℤ depth r s p → Meets r t p q → Finds r q p (loc s)
-back r k p q s t b i m = go (found-or r k q p s)
+back r k p q s t b i m = go (finds-or-none r k q p s)
   where
     turn : {A B : Type 0} → A ⊎ B → B ⊎ A
     turn (inl a) = inr a

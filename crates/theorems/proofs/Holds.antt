@@ -9,9 +9,11 @@ use Rattle.plane.specs.declared.point.Point64.{Point64}
 use Rattle.plane.specs.declared.location.Location.{Location}
 use Rattle.plane.specs.declared.crossing.Search.{Search}
 use Rattle.plane.specs.declared.crossing.Search.the-variants.{Missed, Found}
+use Rattle.plane.specs.declared.rect.Rect64.{Rect64}
 use Rattle.plane.specs.Basics.{Try, refuse, ok, _>>=_}
 use native.Mathlib.Omega.{arith}
-use Rattle.plane.specs.Intersection.{_or-else_}
+use Rattle.plane.specs.Intersection.{_or-else_, get-intersection, found-or}
+use Rattle.reference.specs.Walk.{second-search}
 
 pub data Holds {A : Type 0} (Q : A → Type 0) : Try A → Type 0 where
   refused : {n : ℕ} → Holds Q (refuse n)
@@ -58,6 +60,16 @@ or-cases Missed y q t h k e = k e
 pub guarded : {W : Type 0} (g : Bool) (x : Search) (q : Point64) (t : Location) → (x ≡ Found q t → W) → (cond g x Missed) ≡ Found q t → W
 guarded true x q t h e = h e
 guarded false x q t h e = let z : _≡_ {A = ℕ} 0 1 = cc in absurd (omega arith)
+
+-- what holds of ip and prev, and of all that the search may find, holds of the second search's answer
+pub by-second-search : (P : Point64 → Location → Type 0) (r : Rect64) (q p : Point64) (prev : Location) (ip : Point64) → P ip prev → ((ip2 : Point64) (l : Location) → get-intersection r q p prev ≡ Found ip2 l → P ip2 l)
+    → P (second-search r q p prev ip .point) (second-search r q p prev ip .side)
+unfolding second-search
+by-second-search P r q p prev ip h f = go (get-intersection r q p prev) refl
+  where
+    go : (m : Search) → get-intersection r q p prev ≡ m → P (found-or m ip prev .point) (found-or m ip prev .side)
+    go Missed e = h
+    go (Found ip2 l) e = f ip2 l e
 
 -- ---- all points of a list
 abbrev pub All : (Point64 → Type 0) → List Point64 → Type 0

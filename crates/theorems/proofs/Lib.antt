@@ -38,9 +38,10 @@ pub mod Scans
 pub mod WalkOver
 pub mod FoldPoints
 pub mod Fold
-pub mod Ninth
 pub mod FoldLines
-pub mod NinthLines
+pub mod Room
+pub mod EachPass
+pub mod SecondSearch
 pub mod Pigeon
 pub mod RingLists
 pub mod RingSet

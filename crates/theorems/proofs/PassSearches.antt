@@ -17,7 +17,7 @@ use Rattle.plane.specs.Intersection.{get-intersection}
 use Rattle.theorems.proofs.GeoPlane.{samePt, Side, onLeft, onTop, onRight, onBottom, loc, edge, Found as Finding, nothing, found, search, depth, opposite, second, last, Proper}
 use Rattle.theorems.proofs.GeoCut.{Depths}
 use Rattle.theorems.proofs.GeoSides.{Meets, around}
-use Rattle.theorems.proofs.GeoSearch.{Seek, own, next, rest, none, seek, Finds, FindsNone, found-or, Beyond, Along, place}
+use Rattle.theorems.proofs.GeoSearch.{Seek, own, next, rest, none, seek, Finds, FindsNone, finds-or-none, Beyond, Along, place}
 use Rattle.theorems.proofs.GeoWalk.{Calc}
 use Rattle.theorems.proofs.GeoProgress.{In, in-side, SameAt, same-is, same-last, along-same, stayed}
 use Rattle.theorems.proofs.Bridge.{floats, told, search-told}
@@ -158,7 +158,7 @@ module _ (r : Rect64) (lr : LimitedRect r) (k : Proper r) (p q : Point64) (lp : 
 
   -- from inside: p is strictly beyond t
   pub leave-in : (t : Side) → depth r t p <ℤ pos 0 → (ip : Point64) (c : Location) → get-intersection r p q (loc t) ≡ Found ip c → In r c p
-  leave-in t n ip c e = go (found-or r k p q t)
+  leave-in t n ip c e = go (finds-or-none r k p q t)
     where
       b : Beyond r t p
       b = omega zint
@@ -177,7 +177,7 @@ module _ (r : Rect64) (lr : LimitedRect r) (k : Proper r) (p q : Point64) (lp : 
   -- from side s right through to side t
   pub through-in : (s t : Side) → pos 0 <ℤ depth r s p → Beyond r t p → (ip ip2 : Point64) (c d : Location) → get-intersection r p q (loc t) ≡ Found ip c → get-intersection r q p (loc s) ≡ Found ip2 d
       → same-point ip ip2 ≡ false → In r c p
-  through-in s t i b ip ip2 c d e e2 ne = go (found-or r k p q t) (found-or r k q p s)
+  through-in s t i b ip ip2 c d e e2 ne = go (finds-or-none r k p q t) (finds-or-none r k q p s)
     where
       go : Finds r p q (loc t) ⊎ FindsNone r p q t → Finds r q p (loc s) ⊎ FindsNone r q p s → In r c p
       go (inr n) h = absurd (never refl (ap hit? (forth (loc t) (Found ip c) _ e (n .at))))

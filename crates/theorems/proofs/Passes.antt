@@ -1,6 +1,6 @@
 -- The passes of both walks are enough: a pass that leaves i where it was leaves the walk at a location whose region has the point, so the next pass goes past it. Wherever the walk starts.
-use mathlib.Core.Path.{_≡_, refl, sym, ap, subst}
-use mathlib.Core.Bool.{Bool, true, false, cond, not, _&&_}
+use mathlib.Core.Path.{_≡_, refl, sym, ap, subst, _∙_}
+use mathlib.Core.Bool.{Bool, true, false, cond, not, _&&_, _||_}
 use mathlib.Core.Logic.{_⊎_, inl, inr}
 use mathlib.Core.List.{List}
 use Prim.Native.Nat.{ℕ, zero, suc, _+_, _-_, _<_, _≤_}
@@ -25,14 +25,14 @@ use Rattle.plane.specs.Locations.{same-location, is-inside}
 use Rattle.plane.specs.Rectangle.{mid-point, get-location}
 use Rattle.plane.specs.Intersection.{get-intersection}
 use Rattle.plane.specs.Signs.{is-clockwise-dir}
-use Rattle.reference.specs.Walk.{Walk, nothing-yet, add, push-start-loc, add-corner-prev-curr, add-corners, push-start-locs, Next, get-next-location, State, Pass, remain-outside, enter, pass-to, pass-through, leave, cross-boundary, pt-before, pass-from, passes}
+use Rattle.reference.specs.Walk.{Walk, nothing-yet, add, push-start-loc, add-corner-prev-curr, add-corners, push-start-locs, Next, get-next-location, State, Pass, remain-outside, enter, pass-to, pass-through, leave, cross-boundary, pt-before, pass-from, passes, second-search}
 use Rattle.reference.specs.Lines.{line-through, line-cross, line-from, line-passes}
 use Rattle.theorems.specs.Bounds.{WalkEnds, LineWalkEnds}
-use Rattle.theorems.proofs.Holds.{Holds, refused, held, bind, either, by-search, All, all-at, weaker, anything, holds-ok}
+use Rattle.theorems.proofs.Holds.{Holds, held, bind, either, by-search, All, all-at, weaker, anything, holds-ok, by-second-search}
 use Rattle.theorems.proofs.Demand.{points-limited, not-empty-order}
 use Rattle.theorems.proofs.GeoPlane.{Side, onLeft, onTop, onRight, onBottom, loc, Proper}
-use Rattle.theorems.proofs.GeoWalk.{located}
-use Rattle.theorems.proofs.GeoProgress.{In, in-side, Stop, enters, passes as crosses, leaves, located-in}
+use Rattle.theorems.proofs.GeoWalk.{located, on-edge, on-left, on-right, on-top, on-bottom}
+use Rattle.theorems.proofs.GeoProgress.{In, in-side, Stop, enters, passes as crosses, leaves, located-in, same-refl, edge-closed}
 use Rattle.theorems.proofs.PassSearches.{leave-in, through-in}
 use Rattle.theorems.proofs.NextPoints.{Reached, reached}
 use Rattle.theorems.proofs.Tests.{never}
@@ -79,6 +79,32 @@ module _ (r : Rect64) (p : Point64) where
   pub get-location-in : In r (get-location r p .loc) p
   get-location-in = subst (λ (l : Location). In r l p) (sym get-location-is) (located-in r p .0)
 
+  off-is : (b : Bool) (s t : Spot) (v : Bool) → t .off ≡ v → (cond b s t) .off ≡ cond b (s .off) v
+  off-is true s t v e = refl
+  off-is false s t v e = e
+
+  on-edge-of : get-location r p .off ≡ false → on-edge r p ≡ true
+  unfolding get-location
+  on-edge-of e =
+      go (on-left r p) (on-right r p) (on-top r p) (on-bottom r p) (ltZ (p .x) (r .left)) (ltZ (r .right) (p .x)) (ltZ (p .y) (r .top)) (ltZ (r .bottom) (p .y))
+      (sym (off-is (on-left r p) _ _ _ (off-is (on-right r p) _ _ _ (off-is (on-top r p) _ _ _ (off-is (on-bottom r p) _ _ _ (off-is (ltZ (p .x) (r .left)) _ _ _ (off-is (ltZ (r .right) (p .x)) _ _ _ (off-is (ltZ (p .y) (r .top)) _ _ _ (off-is (ltZ (r .bottom) (p .y)) _ _ _ refl)))))))) ∙ e)
+    where
+      go : (a b c d e f g h : Bool) → cond a false (cond b false (cond c false (cond d false (cond e true (cond f true (cond g true (cond h true true))))))) ≡ false → (a || (b || (c || d))) ≡ true
+      go true b c d e f g h q = refl
+      go false true c d e f g h q = refl
+      go false false true d e f g h q = refl
+      go false false false true e f g h q = refl
+      go false false false false true f g h q = absurd (never refl q)
+      go false false false false false true g h q = absurd (never refl q)
+      go false false false false false false true h q = absurd (never refl q)
+      go false false false false false false false true q = absurd (never refl q)
+      go false false false false false false false false q = absurd (never refl q)
+
+  -- a walk that starts at a point on an edge starts inside or at the edge's side, and the point is in the region of either
+  pub edge-start : Proper r → get-location r p .off ≡ false → (b : Bool) → In r (if b then Inside else get-location r p .loc) p
+  edge-start k e true = edge-closed r k p (on-edge-of e)
+  edge-start k e false = get-location-in
+
 module _ (r : Rect64) (lr : LimitedRect r) (k : Proper r) (p q : Point64) (lp : Limited p) (lq : Limited q) where
   through-any : (l l′ : Location) → Stop r p l l′ → is-inside l′ ≡ false → not (is-inside l) ≡ true → (ip ip2 : Point64) (c d : Location)
       → get-intersection r p q l′ ≡ Found ip c → get-intersection r q p l ≡ Found ip2 d → same-point ip ip2 ≡ false → In r c p
@@ -91,25 +117,24 @@ module _ (r : Rect64) (lr : LimitedRect r) (k : Proper r) (p q : Point64) (lp : 
   leave-any l l′ (crosses s t i b) g h ip c e = absurd (never (ap not (sides-out s)) h)
   leave-any l l′ (leaves t n) g h ip c e = leave-in r lr k p q lp lq t n ip c e
 
+module _ (full : ℕ → Bool) (r : Rect64) where
+  -- behind a pass that finds no crossing: at the next point, and at the location that the pass came to
+  abbrev pub GoesOn : Pass → State → Type 0
+  GoesOn c t = (t .i ≡ c .i + 1) × (t .loc ≡ c .loc)
+
+  pub remain-goes-on : (c : Pass) → Holds (GoesOn c) (remain-outside full r c)
+  unfolding remain-outside
+  remain-goes-on c =
+      either (GoesOn c) (is-inside (c .crossing-prev)) _ _
+      (λ _. bind Any (GoesOn c) (push-start-locs full r 4 (c .walk) (c .prev) (c .loc) (is-clockwise-dir (c .prev) (c .loc) (c .prev-pt) (c .pt) (mid-point r))) _ (anything _) (λ w _. held (refl, refl)))
+      (λ _. either (GoesOn c) (not (is-inside (c .prev)) && not (same-location (c .prev) (c .loc))) _ _
+      (λ _. bind Any (GoesOn c) (add-corners full r 4 (c .walk) (c .prev) (c .loc) (is-clockwise-dir (c .prev) (c .loc) (c .prev-pt) (c .pt) (mid-point r))) _ (anything _) (λ w _. held (refl, refl)))
+      (λ _. held (refl, refl)))
+
 module _ (full : ℕ → Bool) (r : Rect64) (lr : LimitedRect r) (k : Proper r) where
   -- still at the point, in the region of the location
   abbrev pub Stays : Pass → State → Type 0
   Stays c t = (t .i ≡ c .i) × In r (t .loc) (c .pt)
-
-  abbrev Leaves : Pass → State → Type 0
-  Leaves c t = c .i < t .i
-
-  remain-leaves : (c : Pass) → Holds (Leaves c) (remain-outside full r c)
-  unfolding remain-outside
-  remain-leaves c =
-      either (Leaves c) (is-inside (c .crossing-prev)) _ _
-      (λ _. bind Any (Leaves c) (push-start-locs full r 4 (c .walk) (c .prev) (c .loc) (is-clockwise-dir (c .prev) (c .loc) (c .prev-pt) (c .pt) (mid-point r))) _ (anything _) (λ w _. held (more (c .i))))
-      (λ _. either (Leaves c) (not (is-inside (c .prev)) && not (same-location (c .prev) (c .loc))) _ _
-      (λ _. bind Any (Leaves c) (add-corners full r 4 (c .walk) (c .prev) (c .loc) (is-clockwise-dir (c .prev) (c .loc) (c .prev-pt) (c .pt) (mid-point r))) _ (anything _) (λ w _. held (more (c .i))))
-      (λ _. held (more (c .i))))
-    where
-      more : (n : ℕ) → n < n + 1
-      more n = omega arith
 
   enter-stays : (c : Pass) (ip : Point64) (l : Location) → In r (c .loc) (c .pt) → Holds (Stays c) (enter full r c ip l)
   unfolding enter
@@ -138,7 +163,7 @@ module _ (full : ℕ → Bool) (r : Rect64) (lr : LimitedRect r) (k : Proper r) 
   cross-stays c ip l lp lq st e =
       either (Stays c) (is-inside (c .loc)) _ _ (λ _. enter-stays c ip l (stop-in r (c .pt) st))
       (λ o. either (Stays c) (not (is-inside (c .prev))) _ _
-      (λ b. by-search (Stays c) (get-intersection r (c .prev-pt) (c .pt) (c .prev)) _ _ (λ _. refused)
+      (λ b. by-second-search (λ ip2 l2. Holds (Stays c) (pass-to full r c ip l ip2 l2)) r (c .prev-pt) (c .pt) (c .prev) ip (pass-to-stays c ip l ip (c .prev) (λ ne. never (same-refl ip) ne))
       (λ ip2 l2 e2. pass-to-stays c ip l ip2 l2 (λ ne. through-any r lr k (c .pt) (c .prev-pt) lp lq (c .prev) (c .loc) st o b ip ip2 l l2 e e2 ne)))
       (λ b. bind Any (Stays c) (add full (c .walk) ip false) _ (anything _) (λ w _. held (refl, leave-any r lr k (c .pt) (c .prev-pt) lp lq (c .prev) (c .loc) st o b ip l e))))
 
@@ -185,7 +210,7 @@ module _ (full : ℕ → Bool) (r : Rect64) (path : List Point64) where
         either Q (leb (length path) (nx .i)) _ _ (λ e. held (inr (refl, λ g. absurd (let z : length path ≤ nx .i = leb→le (length path) (nx .i) (T-of e) in omega arith))))
         (λ e. let l : nx .i < length path = nleb→lt (length path) (nx .i) (T-not-of e) in
         by-search Q (get-intersection r (pt-at path (nx .i)) (pt-before path (nx .i)) (nx .loc)) _ _
-        (λ _. weaker (Leaves full r lr k c) Q (remain-outside full r c) (remain-leaves full r lr k c) (λ t g. inl g))
+        (λ _. weaker (GoesOn full r c) Q (remain-outside full r c) (remain-goes-on full r c) (λ t g. inl (omega (arith, g .0))))
         (λ ip cl f. weaker (Stays full r lr k c) Q (cross-boundary full r c ip cl) (cross-stays full r lr k c ip cl (all-at Limited path (nx .i) origin lim l) (before-limited (nx .i) l) (h .stopped l) f)
         (λ t g. inr (g .0, λ _. subst (λ (n : ℕ). In r (t .loc) (pt-at path n)) (sym (g .0)) (g .1)))))
       where
@@ -218,8 +243,8 @@ module _ (full : ℕ → Bool) (r : Rect64) (path : List Point64) where
   through-line : (nx : Next) (prev : Location) (q p ip : Point64) → (nx .i < length path → In r (nx .loc) (pt-at path (nx .i))) → Holds (OnwardLine nx) (line-through full r nx prev q p ip)
   unfolding line-through
   through-line nx prev q p ip h =
-      by-search (OnwardLine nx) (get-intersection r q p prev) _ _ (λ _. refused)
-      (λ ip2 l e. bind Any (OnwardLine nx) (add full (nx .walk) ip2 true) _ (anything _) (λ w _. bind Any (OnwardLine nx) (add full w ip false) _ (anything _) (λ v _. held (stays-line nx h v))))
+      bind Any (OnwardLine nx) (add full (nx .walk) (second-search r q p prev ip .point) true) _ (anything _)
+      (λ w _. bind Any (OnwardLine nx) (add full w ip false) _ (anything _) (λ v _. held (stays-line nx h v)))
 
   cross-line : (nx : Next) (prev : Location) (q p ip : Point64) → (nx .i < length path → In r (nx .loc) (pt-at path (nx .i))) → Holds (OnwardLine nx) (line-cross full r nx prev q p ip)
   unfolding line-cross

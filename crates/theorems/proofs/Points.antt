@@ -22,7 +22,7 @@ use Rattle.plane.specs.Intersection.{get-intersection}
 use Rattle.plane.specs.Signs.{is-clockwise-dir}
 use Rattle.plane.specs.Polygon.{path1-contains-path2}
 use Rattle.reference.specs.Walk.{Walk, nothing-yet, add, add-all, push-start-loc, Next, add-corner-prev-curr, add-corner-loc, add-corners, push-start-locs, next-inside, next-outside, get-next-location, State, Pass, Walked, remain-outside, enter, pass-to, pass-through, leave, cross-boundary, pt-before, pass-from, passes, last-off, add-round, surround, retrace, close-outline, after-while, walk-from, walk-closed}
-use Rattle.theorems.proofs.Holds.{Holds, refused, held, bind, either, by-search, All, all-push, all-drop, all-at, all-of}
+use Rattle.theorems.proofs.Holds.{Holds, refused, held, bind, either, by-search, All, all-push, all-drop, all-at, all-of, by-second-search}
 
 -- p is beyond no side
 pub record WithinSides (rect : Rect64) (p : Point64) : Type 0 where
@@ -145,7 +145,7 @@ module _ (full : ℕ → Bool) (P : Point64 → Type 0) (K : Walk → Type 0) (k
     through-kept : (c : Pass) (ip : Point64) (loc : Location) → K (c .walk) → P ip → Finds (c .prev-pt) (c .pt) → Holds KeptState (pass-through full rect c ip loc)
     unfolding pass-through
     through-kept c ip loc h q f =
-        by-search KeptState (get-intersection rect (c .prev-pt) (c .pt) (c .prev)) _ _ (λ _. refused) (λ ip2 l e. pass-to-kept c ip loc ip2 l h q (f (c .prev) ip2 l e))
+        pass-to-kept c ip loc _ _ h q (by-second-search (λ ip2 l. P ip2) rect (c .prev-pt) (c .pt) (c .prev) ip q (f (c .prev)))
 
     leave-kept : (c : Pass) (ip : Point64) (loc : Location) → K (c .walk) → P ip → Holds KeptState (leave full rect c ip loc)
     unfolding leave

@@ -16,10 +16,10 @@ use Rattle.plane.specs.Basics.{if_then_else_, lead, ok, _>>=_}
 use Rattle.plane.specs.Points.{pt-at, origin}
 use Rattle.plane.specs.Rectangle.{get-location, get-bounds-path, is-empty, intersects, beyond, beyond-or-on}
 use Rattle.plane.specs.Intersection.{get-intersection}
-use Rattle.reference.specs.Walk.{Walk, nothing-yet, add, Next, next-inside, next-outside, get-next-location}
+use Rattle.reference.specs.Walk.{Walk, nothing-yet, add, Next, next-inside, next-outside, get-next-location, second-search}
 use Rattle.plane.specs.Locations.{is-inside}
 use Rattle.reference.specs.Lines.{line-through, line-cross, line-from, line-passes, first-off-edge, line-walk-from, walk-open, pieces, longer-than-one, execute-lines}
-use Rattle.theorems.proofs.Holds.{Holds, refused, held, bind, either, by-search, All, all-drop, all-at}
+use Rattle.theorems.proofs.Holds.{Holds, held, bind, either, by-search, All, all-drop, all-at, by-second-search}
 use Rattle.theorems.proofs.Points.{WithinSides, Keeping, add-all-kept}
 use Rattle.theorems.proofs.Returned.{AllPaths}
 use Rattle.theorems.proofs.OnEdge.{on-edge}
@@ -61,9 +61,8 @@ module _ (full : ℕ → Bool) (P : Point64 → Type 0) (K : Walk → Type 0) (k
   through-kept : (n : Next) (prev : Location) (prev-pt pt ip : Point64) → LineKept n → P ip → Finds′ prev-pt pt → Holds LineKept (line-through full rect n prev prev-pt pt ip)
   unfolding line-through
   through-kept n prev prev-pt pt ip h q f =
-      by-search LineKept (get-intersection rect prev-pt pt prev) _ _ (λ _. refused)
-      (λ ip2 l e. bind K LineKept (add full (n .walk) ip2 true) _ (keep .adds (n .walk) ip2 true (h .0) (f prev ip2 l e))
-      (λ w k. bind K LineKept (add full w ip false) _ (keep .adds w ip false k q) (λ v g. held (g, h .1))))
+      bind K LineKept (add full (n .walk) (second-search rect prev-pt pt prev ip .point) true) _ (keep .adds (n .walk) _ true (h .0) (by-second-search (λ ip2 l. P ip2) rect prev-pt pt prev ip q (f prev)))
+      (λ w k. bind K LineKept (add full w ip false) _ (keep .adds w ip false k q) (λ v g. held (g, h .1)))
 
   cross-kept : (n : Next) (prev : Location) (prev-pt pt ip : Point64) → LineKept n → P ip → Finds′ prev-pt pt → Holds LineKept (line-cross full rect n prev prev-pt pt ip)
   unfolding line-cross

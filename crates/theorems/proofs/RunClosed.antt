@@ -13,7 +13,7 @@ use Rattle.plane.specs.declared.rect.Rect64.{Rect64}
 use Rattle.plane.specs.declared.location.Location.{Location}
 use Rattle.plane.specs.declared.location.Location.the-variants.{Inside}
 use Rattle.plane.specs.declared.crossing.Search.{Search}
-use Rattle.plane.specs.declared.crossing.Search.the-variants.{Found}
+use Rattle.plane.specs.declared.crossing.Search.the-variants.{Missed, Found}
 use Rattle.plane.specs.Basics.{if_then_else_, is-nil, Try, ok, _>>=_}
 use Rattle.plane.specs.Limit.{Limited, LimitedRect}
 use Rattle.plane.specs.Locations.{same-location, is-inside}
@@ -27,12 +27,11 @@ use Rattle.theorems.proofs.Alike.{Alike, comes, both, alike-bind}
 use Rattle.theorems.proofs.GeoPlane.{Side, loc, Proper}
 use Rattle.theorems.proofs.GeoSearch.{Inner}
 use Rattle.theorems.proofs.GeoWalk.{step}
-use Rattle.theorems.proofs.GeoProgress.{In}
-use Rattle.theorems.proofs.Passes.{sides-out}
-use Rattle.theorems.proofs.FoldPoints.{next-location, go-past, at-point, walk-on, next-is, after, cond-no}
+use Rattle.theorems.proofs.GeoProgress.{In, Steps, goes, halts, steps}
+use Rattle.theorems.proofs.Passes.{sides-out, stop-in, remain-goes-on, Stays, cross-stays}
+use Rattle.theorems.proofs.FoldPoints.{next-location, go-past, at-point, walk-on, next-is, after, differ, cond-no}
 use Rattle.theorems.proofs.Fold.{Any, pass-at, turned-past, at-stopped, at-gone, walk-folds}
 use Rattle.theorems.proofs.FirstCrossing.{NotIn, cross-out, remain-out, found-side}
-use Rattle.theorems.proofs.Ninth.{room-holds, at-point8}
 use Rattle.theorems.proofs.LastPoint.{last-append, last-at, last-all, last-beyond}
 use Rattle.theorems.proofs.SameWalks.{SameState, SameWalked, walk-refl, state-refl, state-sym, state-trans, point-same, after-same}
 use Rattle.theorems.proofs.Run.{StrictlyInside, inside-of, proper-of, not-empty, BeyondOnly, TwoRuns, route, stops-at, way-out, finds-own, goes-past, off-edges}
@@ -66,6 +65,28 @@ module _ (full : ℕ → Bool) (r : Rect64) (lr : LimitedRect r) (k : Proper r) 
   unfolding go-past
   past-keeps p s = bind Any (λ (t : State). (t .loc ≡ s .loc) × (t .first-cross ≡ s .first-cross)) (if is-inside (s .loc) then add full (s .walk) p false else ok (s .walk)) _ (anything _) (λ w _. held (refl, refl))
 
+  -- a point is in the region of the location that the walk has come to
+  at-stays : (s : State) (q p : Point64) → Limited q → Limited p → Holds (λ (t : State). In r (t .loc) p) (at-point full r s q p)
+  at-stays s q p lq lp = go (steps r (s .loc) p)
+    where
+      Q : State → Type 0
+      Q t = In r (t .loc) p
+
+      past : (s : State) → In r (s .loc) p → Holds Q (go-past full r p s)
+      past s i = holds-map (λ t e. subst (λ (l : Location). In r l p) (sym (e .0)) i) (past-keeps p s)
+
+      go : Steps r p (s .loc) → Holds Q (at-point full r s q p)
+      go (goes f i) = subst (Holds Q) (sym (at-gone full r [] s q p f)) (past s i)
+      go (halts l f t) =
+          subst (Holds Q) (sym (at-stopped full r [] s q p l (next-is full r (s .loc) p ∙ ap (after (s .loc)) f) (differ full r p (s .loc) l t (same-location l (s .loc)) refl))) (on (get-intersection r p q l) refl)
+        where
+          c : Pass
+          c = pass-at full r [] s l q p
+
+          on : (z : Search) → get-intersection r p q l ≡ z → Holds Q (turned-past full r [] c z)
+          on Missed e = holds-map (λ u g. subst (λ (l : Location). In r l p) (sym (g .1)) (stop-in r p t)) (remain-goes-on full r c)
+          on (Found ip cl) e = bind (Stays full r lr k c) Q (cross-boundary full r c ip cl) _ (cross-stays full r lr k c ip cl lp lq t e) (λ u g. past u (g .1))
+
   module _ (u : Side) where
     abbrev Gone : State → Type 0
     Gone t = (t .loc ≡ loc u) × NotIn t
@@ -98,7 +119,7 @@ module _ (full : ℕ → Bool) (r : Rect64) (lr : LimitedRect r) (k : Proper r) 
       transitive = state-trans;
       same-place = λ s t e. e .loc;
       alike = point-same full r;
-      stays = λ s q p lq lp i. room-holds (at-point8 full r lr k [] s q p lq lp i);
+      stays = at-stays;
       leaves = leaves-over;
       goes-past = goes-over;
       stays-out = at-out full r;
@@ -216,7 +237,7 @@ module _ (full : ℕ → Bool) (r : Rect64) (lr : LimitedRect r) (u : Side) (fro
     from-alike l i =
         both (from-is full r lr k path l lim ∙ ends path (route-ends run back refl)) (from-is full r lr k path′ l lim′ ∙ ends path′ (route-ends run′ back (sym (d .same))))
         (alike-bind (λ s t. SameState s t × NotIn s) SameWalked _ _
-        (from-before (closed-visits full r lr k u) p q run run′ back d (around .1 .0) (around .1 .1 .0) front (begin full r l) final final-limited (around .0) i)
+        (from-before (closed-visits full r lr k u) p q run run′ back d (around .1 .0) (around .1 .1 .0) front (begin full r l) final final-limited (around .0))
         (λ s t g. after-same full r path path′ l s t (g .0) (g .1)))
       where
         ends : (path : List Point64) → last-of origin path ≡ final → (walk-on full r (begin full r l) (last-of origin path) path >>= after-while full r path l) ≡ (walk-on full r (begin full r l) final path >>= after-while full r path l)

@@ -26,13 +26,11 @@ use Rattle.theorems.proofs.Alike.{Alike, comes, both, alike-bind, alike
 use Rattle.theorems.proofs.GeoPlane.{Side, loc, Proper}
 use Rattle.theorems.proofs.GeoSearch.{Inner}
 use Rattle.theorems.proofs.GeoWalk.{step}
-use Rattle.theorems.proofs.GeoProgress.{In}
-use Rattle.theorems.proofs.Passes.{sides-out}
-use Rattle.theorems.proofs.FoldPoints.{next-is, after, cond-no, lt-no}
+use Rattle.theorems.proofs.GeoProgress.{In, Steps, goes, halts, steps}
+use Rattle.theorems.proofs.Passes.{sides-out, stop-in}
+use Rattle.theorems.proofs.FoldPoints.{next-is, after, cond-no, lt-no, differ}
 use Rattle.theorems.proofs.Fold.{Any, bind-same}
 use Rattle.theorems.proofs.FoldLines.{line-past, line-at, line-on, StaysAt, cross-stays, turned-past, at-stopped, at-gone, line-folds}
-use Rattle.theorems.proofs.Ninth.{room-holds}
-use Rattle.theorems.proofs.NinthLines.{line-at8}
 use Rattle.theorems.proofs.SameWalks.{SameWalk, SameNext, walk-refl, next-refl, next-sym, next-trans, line-same}
 use Rattle.theorems.proofs.Run.{StrictlyInside, inside-of, inner-of, proper-of, not-empty, BeyondOnly, TwoRuns, route, inner-in, stops-at, goes-past, off-edges}
 use Rattle.theorems.proofs.RunWalk.{Visits, from-inside, from-before}
@@ -47,6 +45,30 @@ module _ (full : ℕ → Bool) (r : Rect64) (lr : LimitedRect r) (k : Proper r) 
   past-keeps : (p : Point64) (s : Next) → Holds (λ (t : Next). t .loc ≡ s .loc) (line-past full r p s)
   unfolding line-past
   past-keeps p s = bind Any (λ (t : Next). t .loc ≡ s .loc) (if is-inside (s .loc) then add full (s .walk) p false else ok (s .walk)) _ (anything _) (λ w _. held refl)
+
+  -- a point is in the region of the location that the walk has come to
+  at-stays : (s : Next) (q p : Point64) → Holds (λ (t : Next). In r (t .loc) p) (line-at full r s q p)
+  at-stays s q p = go (steps r (s .loc) p)
+    where
+      Q : Next → Type 0
+      Q t = In r (t .loc) p
+
+      past : (s : Next) → In r (s .loc) p → Holds Q (line-past full r p s)
+      past s i = holds-map (λ t e. subst (λ (l : Location). In r l p) (sym e) i) (past-keeps p s)
+
+      go : Steps r p (s .loc) → Holds Q (line-at full r s q p)
+      go (goes f i) = subst (Holds Q) (sym (at-gone full r [] s q p f)) (past s i)
+      go (halts l f t) =
+          subst (Holds Q) (sym (at-stopped full r [] s q p l (next-is full r (s .loc) p ∙ ap (after (s .loc)) f) (differ full r p (s .loc) l t (same-location l (s .loc)) refl))) (on (get-intersection r p q l))
+        where
+          nx : Next
+          nx = record { walk = s .walk; loc = l; i = s .i }
+
+          on : (z : Search) → Holds Q (turned-past full r [] nx (s .loc) q p z)
+          on Missed = held (stop-in r p t)
+          on (Found ip cl) =
+              bind (StaysAt full r [] nx) Q (line-cross full r nx (s .loc) q p ip) _ (cross-stays full r [] nx (s .loc) q p ip)
+              (λ u g. past u (subst (λ (x : Location). In r x p) (sym (g .1)) (stop-in r p t)))
 
   module _ (u : Side) where
     abbrev Gone : Next → Type 0
@@ -79,7 +101,7 @@ module _ (full : ℕ → Bool) (r : Rect64) (lr : LimitedRect r) (k : Proper r) 
       transitive = next-trans;
       same-place = λ s t e. e .loc;
       alike = line-same full r;
-      stays = λ s q p lq lp i. room-holds (line-at8 full r lr k [] s q p lq lp i);
+      stays = λ s q p _ _. at-stays s q p;
       leaves = leaves-over;
       goes-past = goes-over;
       stays-out = λ s q p _. anything (line-at full r s q p);
@@ -151,7 +173,7 @@ module _ (full : ℕ → Bool) (r : Rect64) (lr : LimitedRect r) (u : Side) (p q
         both (from-is full r f (route fs p q run back) l) (from-is full r f (route fs p q run′ back) l)
         (alike-after Any SameWalk (first-added full r f l) _ _ (anything _)
         (λ w _. alike-bind SameAgreed SameWalk walked walked
-        (from-before (open-visits full r lr k u) p q run run′ back d lp lq fs (record { walk = w; loc = l; i = 1 }) f (ls .0) (ls .1) i) (λ s t g. comes (g .0 .walk))))
+        (from-before (open-visits full r lr k u) p q run run′ back d lp lq fs (record { walk = w; loc = l; i = 1 }) f (ls .0) (ls .1)) (λ s t g. comes (g .0 .walk))))
 
   pub open-alike : (front : List Point64) → All Limited (route front p q run back) → Alike SameWalk (walk-open full r (route front p q run back)) (walk-open full r (route front p q run′ back))
   open-alike front lim =

@@ -13,9 +13,8 @@ use Rattle.plane.specs.Locations.{is-inside}
 use Rattle.plane.specs.Rectangle.{get-location}
 use Rattle.theorems.proofs.Alike.{Alike}
 use Rattle.theorems.proofs.GeoPlane.{Proper}
-use Rattle.theorems.proofs.GeoProgress.{In, edge-closed}
-use Rattle.theorems.proofs.Passes.{get-location-in}
-use Rattle.theorems.proofs.Ninth.{on-edge-of}
+use Rattle.theorems.proofs.GeoProgress.{In}
+use Rattle.theorems.proofs.Passes.{get-location-in, edge-start}
 
 -- both searches find the same
 pub data SameFind : Search → Search → Type 0 where
@@ -36,11 +35,7 @@ module _ (r : Rect64) (z : Point64) where
       go true e = on (get-location r z .loc) (get-location-in r z)
       go false e = found (f e)
         where
-          edge : (b : Bool) → In r (if b then Inside else get-location r z .loc) z
-          edge true = edge-closed r k z (on-edge-of r z e)
-          edge false = get-location-in r z
-
           found : {w w′ : Search} → SameFind w w′
               → Alike R (elim w [ Missed ↦ edges | Found p prev ↦ from (if is-inside prev then Inside else get-location r z .loc) ])
               (elim w′ [ Missed ↦ edges′ | Found p prev ↦ from′ (if is-inside prev then Inside else get-location r z .loc) ])
-          found (finds p l) = on (if is-inside l then Inside else get-location r z .loc) (edge (is-inside l))
+          found (finds p l) = on (if is-inside l then Inside else get-location r z .loc) (edge-start r z k e (is-inside l))

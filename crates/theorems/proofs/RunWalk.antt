@@ -29,7 +29,7 @@ pub record Visits (r : Rect64) (u : Side) {S : Type 0} (visit : S → Point64 �
   -- states that agree go on alike
   pub alike : (s t : S) (q p : Point64) → Same s t → Alike Same (visit s q p) (visit t q p)
   -- a point is in the region of the place that the walk has come to
-  pub stays : (s : S) (q p : Point64) → Limited q → Limited p → In r (place s) q → Holds (λ t. In r (place t) p) (visit s q p)
+  pub stays : (s : S) (q p : Point64) → Limited q → Limited p → Holds (λ t. In r (place t) p) (visit s q p)
   -- from a point strictly inside to one beyond u alone the walk leaves over u
   pub leaves : (s : S) (p q : Point64) → Limited p → Limited q → Inner r p → BeyondOnly r u q → place s ≡ Inside → Holds (λ t. (place t ≡ loc u) × Out t) (visit s p q)
   -- from u a point beyond u is gone past
@@ -72,10 +72,10 @@ module _ {r : Rect64} {u : Side} {S : Type 0} {visit : S → Point64 → Point64
         (λ t g. alike-and Same Out (both-runs t (g .0)) (over-holds visit Out (visits .stays-out) (run ++ back) t q (g .1)))
 
     -- from the point z before the list's first
-    pub from-before : (front : List Point64) (s : S) (z : Point64) → Limited z → All Limited front → In r (place s) z
+    pub from-before : (front : List Point64) (s : S) (z : Point64) → Limited z → All Limited front
         → Alike Agree (walk-over visit s z (route front p q run back)) (walk-over visit s z (route front p q run′ back))
     unfolding walk-over
-    from-before [] s z lz ls i =
-        alike-after (λ t. In r (place t) p) Agree (visit s z p) _ _ (visits .stays s z p lz lp i) (λ t g. from-inside t (inner-in r (place t) p (inner-of r p inside) g))
-    from-before (x ∷ front) s z lz ls i =
-        alike-after (λ t. In r (place t) x) Agree (visit s z x) _ _ (visits .stays s z x lz (ls .0) i) (λ t g. from-before front t x (ls .0) (ls .1) g)
+    from-before [] s z lz ls =
+        alike-after (λ t. In r (place t) p) Agree (visit s z p) _ _ (visits .stays s z p lz lp) (λ t g. from-inside t (inner-in r (place t) p (inner-of r p inside) g))
+    from-before (x ∷ front) s z lz ls =
+        alike-after (λ t. In r (place t) x) Agree (visit s z x) _ _ (visits .stays s z x lz (ls .0)) (λ t _. from-before front t x (ls .0) (ls .1))

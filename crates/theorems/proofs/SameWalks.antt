@@ -17,7 +17,7 @@ use Rattle.plane.specs.Intersection.{get-intersection}
 use Rattle.reference.specs.Counts.{corner-steps}
 use Rattle.reference.specs.Walk.{Walk, Walked, add, Next, push-start-loc, add-corner-prev-curr, add-corner-loc, add-corners, push-start-locs, State, Pass, remain-outside, enter, pass-to, pass-through, leave, cross-boundary, retrace, close-outline, after-while}
 use Rattle.reference.specs.Lines.{line-through, line-cross}
-use Rattle.theorems.proofs.Alike.{Alike, refuses, comes, alike-refl, alike-bind, alike-if, alike-tests, alike-else, alike-search}
+use Rattle.theorems.proofs.Alike.{Alike, comes, alike-refl, alike-bind, alike-if, alike-tests, alike-else, alike-search}
 use Rattle.theorems.proofs.FirstCrossing.{NotIn}
 use Rattle.theorems.proofs.FoldPoints.{next-location, go-past, at-point}
 use Rattle.theorems.proofs.FoldLines.{line-past, line-at}
@@ -164,7 +164,7 @@ module _ (full : ℕ → Bool) (r : Rect64) where
     cross-same ip l =
         alike-if SameState (is-inside (c .loc)) (enter-same ip l)
         (alike-if SameState (not (is-inside (c .prev)))
-        (alike-search SameState (get-intersection r (c .prev-pt) (c .pt) (c .prev)) _ _ _ _ refuses (λ ip2 l2. pass-to-same ip l ip2 l2))
+        (pass-to-same ip l _ _)
         (alike-bind SameWalk SameState _ _ (add-same full e ip false) (λ _ _ f. come-to f)))
 
   -- the second state in the words of the first
@@ -234,8 +234,7 @@ module _ (full : ℕ → Bool) (r : Rect64) where
   line-cross-same v j nx e prev q p ip =
       alike-if SameNext (is-inside (nx .loc)) (alike-bind SameWalk SameNext _ _ (add-same full e ip true) (λ _ _ f. next-to f))
       (alike-if SameNext (not (is-inside prev))
-      (alike-search SameNext (get-intersection r q p prev) _ _ _ _ refuses
-      (λ ip2 l. alike-bind SameWalk SameNext _ _ (add-same full e ip2 true) (λ _ _ f. alike-bind SameWalk SameNext _ _ (add-same full f ip false) (λ _ _ g. next-to g))))
+      (alike-bind SameWalk SameNext _ _ (add-same full e _ true) (λ _ _ f. alike-bind SameWalk SameNext _ _ (add-same full f ip false) (λ _ _ g. next-to g)))
       (alike-bind SameWalk SameNext _ _ (add-same full e ip false) (λ _ _ f. next-to f)))
 
   line-in-words : (P : Next → Type 0) {s t : Next} → SameNext s t → P (next-with (t .walk) (t .i) s) → P t

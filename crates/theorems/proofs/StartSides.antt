@@ -12,11 +12,10 @@ use Rattle.plane.specs.Basics.{if_then_else_, is-nil, ok}
 use Rattle.plane.specs.Points.{pt-at, same-point}
 use Rattle.plane.specs.Locations.{same-location, side, side-number, get-adjacent-location, is-inside}
 use Rattle.plane.specs.Rectangle.{mid-point, get-location, beyond, corner}
-use Rattle.plane.specs.Intersection.{get-intersection}
 use Rattle.plane.specs.Signs.{is-clockwise-dir}
 use Rattle.reference.specs.Walk.{Walk, add, push-start-loc, add-corner-prev-curr, add-corner-loc, add-corners, push-start-locs, Next, next-outside, next-inside, get-next-location, State, Pass, remain-outside, enter, pass-to, pass-through, leave, cross-boundary}
 use Rattle.theorems.specs.CornerLoops.{AllSides}
-use Rattle.theorems.proofs.Holds.{Holds, refused, held, bind, either, by-search}
+use Rattle.theorems.proofs.Holds.{Holds, refused, held, bind, either}
 use Rattle.theorems.proofs.Tests.{not-false}
 
 side-out : (n : ℕ) → is-inside (side n) ≡ false
@@ -132,5 +131,5 @@ module _ (full : ℕ → Bool) where
     cross-sides c ip l h f =
         either SidesIn (is-inside (c .loc)) _ _ (λ i. enter-sides c ip l h (f i))
         (λ _. either SidesIn (not (is-inside (c .prev))) _ _
-        (λ b. by-search SidesIn (get-intersection r (c .prev-pt) (c .pt) (c .prev)) _ _ (λ _. refused) (λ ip2 l2 _. pass-to-sides c ip l ip2 l2 h (not-false (is-inside (c .prev)) b)))
+        (λ b. pass-to-sides c ip l _ _ h (not-false (is-inside (c .prev)) b))
         (λ _. bind Sides SidesIn (add full (c .walk) ip false) _ (add-sides (c .walk) ip false h) (λ w k. held k)))

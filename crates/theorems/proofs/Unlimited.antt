@@ -124,7 +124,7 @@ module _ (full : ℕ → Bool) where
     cross-agrees c ip loc =
         if-agree (is-inside (c .loc)) (enter-agrees c ip loc)
         (if-agree (not (is-inside (c .prev)))
-        (search-agree (get-intersection rect (c .prev-pt) (c .pt) (c .prev)) _ _ _ _ agrees (λ ip2 l. pass-to-agrees c ip loc ip2 l))
+        (pass-to-agrees c ip loc _ _)
         (bind-agree _ _ (add-agrees (c .walk) ip false) (λ w. agrees)))
 
     module _ (path : List Point64) where

@@ -2,7 +2,9 @@
 pub mod Demand
 pub mod Bounds
 pub mod LoopsEnd
+pub mod Walks
 pub mod CornerLoops
+pub mod SecondSearch
 pub mod Sizes
 pub mod Rings
 pub mod Outline

@@ -1,18 +1,23 @@
--- The walked outline is what walks put down. Its definition gives the empty list where the unlimited walk is refused; without these statements
--- a reader of `AreaKept` could not exclude that it always is. Statements only; proofs: Ninth, Unlimited.
+-- What a walk may be refused for, and that the walked outline is what walks put down. Its definition gives the empty list where the unlimited walk is
+-- refused; without these statements a reader of `AreaKept` could not exclude that it always is. Statements only; proofs: Room, Unlimited.
 use mathlib.Core.Path.{_≡_}
-use mathlib.Core.Bool.{Bool, false}
+use mathlib.Core.Bool.{Bool, true}
 use mathlib.Core.List.{List}
 use Prim.Native.Nat.{ℕ}
-use lib.Dec.{T}
-use lib.IntN.{ℤ}
 use Rattle.plane.specs.declared.point.Point64.{Point64}
 use Rattle.plane.specs.declared.rect.Rect64.{Rect64}
-use Rattle.plane.specs.Basics.{ok}
-use Rattle.plane.specs.Points.{points-of}
-use Rattle.plane.specs.Rectangle.{is-empty}
-use Rattle.plane.specs.Limit.{rect-in-limit, all-in-limit}
+use Rattle.plane.specs.Basics.{Try, refuse, ok}
 use Rattle.reference.specs.Walk.{Walked, unlimited, walk-closed, walked-outline}
+use Rattle.theorems.specs.Walks.{walk-of}
+
+-- refused for want of room alone: by 8, of a list of n entries that is full
+pub data RoomAlone (full : ℕ → Bool) {A : Type 0} : Try A → Type 0 where
+  no-room-left : (n : ℕ) → full n ≡ true → RoomAlone full (refuse 8)
+  not-refused : (a : A) → RoomAlone full (ok a)
+
+-- every walk, of closed paths and of open ones, whatever the rectangle and the path
+abbrev pub OnlyRoomRefuses : Type 0
+OnlyRoomRefuses = (closed : Bool) (full : ℕ → Bool) (rect : Rect64) (path : List Point64) → RoomAlone full (walk-of closed full rect path)
 
 -- the unlimited walk is not refused, and the walked outline is the points that it puts down
 pub record Outlined (rect : Rect64) (path : List Point64) : Type 0 where
@@ -20,9 +25,8 @@ pub record Outlined (rect : Rect64) (path : List Point64) : Type 0 where
   pub is-walk : walk-closed unlimited rect path ≡ ok walked
   pub outline : walked-outline rect path ≡ walked .walk .points
 
--- so it is within the coordinate limit, on a rectangle that is not empty
 abbrev pub OutlineDrawn : Type 0
-OutlineDrawn = (rect : Rect64) (coords : List ℤ) → T (rect-in-limit rect) → T (all-in-limit coords) → is-empty rect ≡ false → Outlined rect (points-of coords)
+OutlineDrawn = (rect : Rect64) (path : List Point64) → Outlined rect path
 
 -- a walk that had room, whatever the lists, puts down exactly the walked outline
 abbrev pub WalksOutline : Type 0
