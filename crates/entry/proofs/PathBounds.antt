@@ -1,5 +1,5 @@
--- A path's bounds: the loop that grows them, and that all coordinates are within the limit exactly if the path is empty or its bounds are. Assumes nothing.
-use mathlib.Core.Path.{_≡_, refl, sym, subst}
+-- A path's bounds: the loop that grows them, and that all coordinates are within the limit exactly if the path has no points or its bounds are. Assumes nothing.
+use mathlib.Core.Path.{_≡_, refl, sym, ap, _∙_, subst}
 use mathlib.Core.Bool.{Bool, true, false, _&&_}
 use mathlib.Core.Logic.{⊎-elim}
 use mathlib.Core.List.{List, [], _∷_}
@@ -15,20 +15,27 @@ use Rattle.integers.specs.Order.{zint, abs-pn, parts}
 use Rattle.integers.specs.Tests.{ltZ-true, ltZ-false, lt-ltZ, cond-true}
 use Rattle.plane.specs.Basics.{if_then_else_}
 use Rattle.plane.specs.Limit.{in-limit, all-in-limit, rect-in-limit, LimitedRect}
-use Rattle.plane.specs.Points.{point, points-of}
+use Rattle.plane.specs.Points.{point, points-of, coordinates-of}
 use Rattle.plane.specs.Rectangle.{grown, bounds-from, no-bounds, get-bounds-path}
 use Rattle.plane.proofs.Limits.{rect-limited}
 use Rattle.plane.specs.declared.point.Point64.{Point64}
 use Rattle.plane.specs.declared.rect.Rect64.{Rect64}
+use Rattle.entry.specs.declared.survey.Extent.{Extent}
+use Rattle.entry.specs.Survey.{survey, BoundsTellLimit}
 
 -- ---- the loop
--- one turn
-pub grow-step : (path : List ℤ) (i : ℕ) (s : Rect64) → i + 1 < length path
+-- the next point taken from those that are left
+next-grows : (path : List ℤ) (i : ℕ) (s : Rect64) → i + 1 < length path
     → bounds-from s (points-of (drop i path)) ≡ bounds-from (grown s (point (getD path i (pos 0)) (getD path (i + 1) (pos 0)))) (points-of (drop (i + 2) path))
-grow-step path i s h =
+next-grows path i s h =
     let h0 : i < length path = omega arith in
     let h1 : suc i < length path = omega arith in
     rw (add-one, add-two, drop-cons path i (pos 0) h0, drop-cons path (suc i) (pos 0) h1)
+
+-- one turn: what the bounds and the points that are left come to, the bounds with the next point and the points behind it do
+pub grow-step : (path : List ℤ) (i : ℕ) (s : Rect64) → i + 1 < length path → {t : Rect64} → t ≡ grown s (point (getD path i (pos 0)) (getD path (i + 1) (pos 0))) → {goal : Rect64}
+    → bounds-from s (points-of (drop i path)) ≡ goal → bounds-from t (points-of (drop (i + 2) path)) ≡ goal
+grow-step path i s h e g = ap (λ (r : Rect64). bounds-from r (points-of (drop (i + 2) path))) e ∙ sym (next-grows path i s h) ∙ g
 
 -- no point is left
 pub grow-short : (path : List ℤ) (i : ℕ) (s : Rect64) → length path ≤ i + 1 → bounds-from s (points-of (drop i path)) ≡ s
@@ -152,8 +159,8 @@ grown-out s p l u v = record {
 }
 
 -- ---- the whole path
-pub record Within (c : List ℤ) (s : Rect64) : Type 0 where
-  pub coordinates : T (all-in-limit c)
+pub record Within (path : List Point64) (s : Rect64) : Type 0 where
+  pub coordinates : T (all-in-limit (coordinates-of path))
   pub bounds : LimitedRect s
 
 and-in : (a b : Bool) → T a → T b → T (a && b)
@@ -163,52 +170,40 @@ and-out : (a b : Bool) → T (a && b) → T a × T b
 and-out true b t = (tt, t)
 and-out false b t = absurd t
 
-pair-in : (x y : ℤ) (c : List ℤ) → In x → In y → T (all-in-limit c) → T (all-in-limit (x ∷ y ∷ c))
-pair-in x y c u v t = and-in (in-limit x) (in-limit y && all-in-limit c) (le→leb _ _ u) (and-in (in-limit y) (all-in-limit c) (le→leb _ _ v) t)
+point-in : (p : Point64) (path : List Point64) → In (p .x) → In (p .y) → T (all-in-limit (coordinates-of path)) → T (all-in-limit (coordinates-of (p ∷ path)))
+point-in p path u v t =
+    and-in (in-limit (p .x)) (in-limit (p .y) && all-in-limit (coordinates-of path)) (le→leb _ _ u) (and-in (in-limit (p .y)) (all-in-limit (coordinates-of path)) (le→leb _ _ v) t)
 
-pair-out : (x y : ℤ) (c : List ℤ) → T (all-in-limit (x ∷ y ∷ c)) → In x × (In y × T (all-in-limit c))
-pair-out x y c t =
-    let u = and-out (in-limit x) (in-limit y && all-in-limit c) t in
-    let v = and-out (in-limit y) (all-in-limit c) (u .1) in
+point-out : (p : Point64) (path : List Point64) → T (all-in-limit (coordinates-of (p ∷ path))) → In (p .x) × (In (p .y) × T (all-in-limit (coordinates-of path)))
+point-out p path t =
+    let u = and-out (in-limit (p .x)) (in-limit (p .y) && all-in-limit (coordinates-of path)) t in
+    let v = and-out (in-limit (p .y)) (all-in-limit (coordinates-of path)) (u .1) in
     (leb→le _ _ (u .0), (leb→le _ _ (v .0), v .1))
 
-odd-one : 1 % 2 ≡ 0 → ⊥
-odd-one e = omega arith
+from-in : (s : Rect64) (path : List Point64) → Ordered s → LimitedRect (bounds-from s path) → Within path s
+from-in s [] o l = record { coordinates = tt; bounds = l }
+from-in s (p ∷ path) o l =
+    let w = from-in (grown s p) path (grown-ordered s p o) l in
+    let g = grown-in s p o (w .bounds) in
+    record { coordinates = point-in p path (g .1 .0) (g .1 .1) (w .coordinates); bounds = g .0 }
 
-even-less : (n : ℕ) → suc (suc n) % 2 ≡ 0 → n % 2 ≡ 0
-even-less n e = omega arith
-
-from-in : (s : Rect64) (c : List ℤ) → length c % 2 ≡ 0 → Ordered s → LimitedRect (bounds-from s (points-of c)) → Within c s
-from-in s [] e o l = record { coordinates = tt; bounds = l }
-from-in s (x ∷ []) e o l = absurd (odd-one e)
-from-in s (x ∷ y ∷ c) e o l =
-    let w = from-in (grown s (point x y)) c (even-less (length c) e) (grown-ordered s (point x y) o) l in
-    let g = grown-in s (point x y) o (w .bounds) in
-    record { coordinates = pair-in x y c (g .1 .0) (g .1 .1) (w .coordinates); bounds = g .0 }
-
-from-out : (s : Rect64) (c : List ℤ) → T (all-in-limit c) → LimitedRect s → LimitedRect (bounds-from s (points-of c))
+from-out : (s : Rect64) (path : List Point64) → T (all-in-limit (coordinates-of path)) → LimitedRect s → LimitedRect (bounds-from s path)
 from-out s [] t l = l
-from-out s (x ∷ []) t l = l
-from-out s (x ∷ y ∷ c) t l = let p = pair-out x y c t in from-out (grown s (point x y)) c (p .1 .1) (grown-out s (point x y) l (p .0) (p .1 .0))
+from-out s (p ∷ path) t l = let q = point-out p path t in from-out (grown s p) path (q .1 .1) (grown-out s p l (q .0) (q .1 .0))
 
-all-in : (c : List ℤ) → length c % 2 ≡ 0 → 0 < length c → LimitedRect (get-bounds-path (points-of c)) → T (all-in-limit c)
+all-in : (p : Point64) (path : List Point64) → LimitedRect (get-bounds-path (p ∷ path)) → T (all-in-limit (coordinates-of (p ∷ path)))
 unfolding get-bounds-path
-all-in [] e h l = tt
-all-in (x ∷ []) e h l = absurd (odd-one e)
-all-in (x ∷ y ∷ c) e h l =
-    let s = grown no-bounds (point x y) in
-    let w = from-in s c (even-less (length c) e) (record { wide = first-order x; tall = first-order y }) l in
-    pair-in x y c (first-in x (w .bounds .left) (w .bounds .right)) (first-in y (w .bounds .top) (w .bounds .bottom)) (w .coordinates)
+all-in p path l =
+    let w = from-in (grown no-bounds p) path (record { wide = first-order (p .x); tall = first-order (p .y) }) l in
+    point-in p path (first-in (p .x) (w .bounds .left) (w .bounds .right)) (first-in (p .y) (w .bounds .top) (w .bounds .bottom)) (w .coordinates)
 
-all-out : (c : List ℤ) → length c % 2 ≡ 0 → 0 < length c → T (all-in-limit c) → LimitedRect (get-bounds-path (points-of c))
+all-out : (p : Point64) (path : List Point64) → T (all-in-limit (coordinates-of (p ∷ path))) → LimitedRect (get-bounds-path (p ∷ path))
 unfolding get-bounds-path
-all-out [] e h t = absurd (omega arith)
-all-out (x ∷ []) e h t = absurd (odd-one e)
-all-out (x ∷ y ∷ c) e h t =
-    let p = pair-out x y c t in
-    let u = first-out x (p .0) in
-    let v = first-out y (p .1 .0) in
-    from-out (grown no-bounds (point x y)) c (p .1 .1) (record { left = u .0; top = v .0; right = u .1; bottom = v .1 })
+all-out p path t =
+    let q = point-out p path t in
+    let u = first-out (p .x) (q .0) in
+    let v = first-out (p .y) (q .1 .0) in
+    from-out (grown no-bounds p) path (q .1 .1) (record { left = u .0; top = v .0; right = u .1; bottom = v .1 })
 
 limited-rect : (r : Rect64) → LimitedRect r → T (rect-in-limit r)
 limited-rect r l =
@@ -222,14 +217,43 @@ same true false f g = absurd (f tt)
 same false true f g = absurd (g tt)
 same false false f g = refl
 
--- a path that has points is within the limit exactly if its bounds are
-pub bounds-decide : (c : List ℤ) → length c % 2 ≡ 0 → 0 < length c → rect-in-limit (get-bounds-path (points-of c)) ≡ all-in-limit c
-bounds-decide c e h =
-    same (rect-in-limit (get-bounds-path (points-of c))) (all-in-limit c)
-    (λ t. all-in c e h (rect-limited (get-bounds-path (points-of c)) t))
-    (λ t. limited-rect (get-bounds-path (points-of c)) (all-out c e h t))
+-- Bounds with one more point are within the limit exactly if the bounds before are and the point is; the bounds of nothing take the first
+-- point whole.
+pub bounds-tell-limit : BoundsTellLimit
+bounds-tell-limit [] h = absurd (omega arith)
+bounds-tell-limit (p ∷ path) h =
+    same (rect-in-limit (get-bounds-path (p ∷ path))) (all-in-limit (coordinates-of (p ∷ path)))
+    (λ t. all-in p path (rect-limited (get-bounds-path (p ∷ path)) t))
+    (λ t. limited-rect (get-bounds-path (p ∷ path)) (all-out p path t))
 
--- and one that has none is
-pub empty-within : (c : List ℤ) → length c ≡ 0 → true ≡ all-in-limit c
-empty-within [] e = refl
-empty-within (x ∷ c) e = absurd (omega arith)
+-- ---- what `survey` tells
+-- of a path without points
+pub surveyed-none : (c : List ℤ) → length c < 2 → {b : Rect64} → b ≡ get-bounds-path (points-of c) → _≡_ {A = Extent} (record { bounds = b; «in_limit» = true }) (survey (points-of c))
+surveyed-none c n h = λ i. record { bounds = h i; «in_limit» = all-within c n i }
+  where
+    all-within : (c : List ℤ) → length c < 2 → true ≡ all-in-limit (coordinates-of (points-of c))
+    all-within [] n = refl
+    all-within (x ∷ []) n = refl
+    all-within (x ∷ y ∷ c) n = absurd (omega arith)
+
+-- and of one with points
+pub surveyed-some : (c : List ℤ) → 2 ≤ length c → {b : Rect64} → b ≡ get-bounds-path (points-of c) → {t : Bool} → t ≡ rect-in-limit b → _≡_ {A = Extent} (record { bounds = b; «in_limit» = t }) (survey (points-of c))
+surveyed-some c n h g = λ i. record { bounds = h i; «in_limit» = (g ∙ ap (λ (r : Rect64). rect-in-limit r) h ∙ bounds-tell-limit (points-of c) (has-points c n)) i }
+  where
+    has-points : (c : List ℤ) → 2 ≤ length c → 0 < length (points-of c)
+    has-points [] n = absurd (omega arith)
+    has-points (x ∷ []) n = absurd (omega arith)
+    has-points (x ∷ y ∷ c) n = omega arith
+
+-- coordinates in pairs are those of their points
+coordinates-back : (c : List ℤ) → length c % 2 ≡ 0 → coordinates-of (points-of c) ≡ c
+coordinates-back [] e = refl
+coordinates-back (x ∷ []) e = absurd (omega arith)
+coordinates-back (x ∷ y ∷ c) e = ap (λ (l : List ℤ). x ∷ y ∷ l) (coordinates-back c (omega arith))
+
+module _ (c : List ℤ) {e : Extent} (h : e ≡ survey (points-of c)) where
+  pub surveyed-bounds : e .bounds ≡ get-bounds-path (points-of c)
+  surveyed-bounds = ap (λ (x : Extent). x .bounds) h
+
+  pub surveyed-limit : length c % 2 ≡ 0 → e .«in_limit» ≡ all-in-limit c
+  surveyed-limit v = ap (λ (x : Extent). x .«in_limit») h ∙ ap all-in-limit (coordinates-back c v)

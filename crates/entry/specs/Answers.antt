@@ -1,10 +1,8 @@
 -- Document 01's numbers and values for the cases of the answers.
-use mathlib.Core.Path.{_≡_}
 use mathlib.Core.List.{List}
-use Prim.Native.Nat.{ℕ, _%_}
+use Prim.Native.Nat.{ℕ}
 use lib.Dec.{eqb}
 use lib.IntN.{ℤ}
-use lib.ListN.{length}
 use Rattle.plane.specs.Basics.{if_then_else_}
 use Rattle.plane.specs.Points.{points-of}
 use Rattle.plane.specs.Rectangle.{get-bounds-path}
@@ -55,9 +53,3 @@ checked (admit.Admitted b) = surveyed b
 -- 0 where no check stops the call
 abbrev pub admission : ℕ → List ℤ → Checked
 admission n coords = if eqb n 0 then surveyed (get-bounds-path (points-of coords)) else stopped n
-
--- ---- words of the private functions
--- coordinates in pairs, and their bounds
-pub record Surveyed (coords : List ℤ) (bounds : Rect64) : Type 0 where
-  pub even : length coords % 2 ≡ 0
-  pub bound : bounds ≡ get-bounds-path (points-of coords)

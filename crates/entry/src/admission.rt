@@ -2,11 +2,10 @@
 ghost use mathlib.Core.Path.{_≡_};
 ghost use Prim.Native.Nat.{_%_};
 ghost use lib.ListN.{length};
-ghost use Rattle.plane.specs.Limit.{all-in-limit};
 ghost use Rattle.reference.specs.Entry.{early-refusal, sheet-refusal};
-ghost use Rattle.entry.specs.Answers.{checked, admission, Surveyed};
+ghost use Rattle.entry.specs.Answers.{checked, admission};
 use crate::answer::Refusal;
-use crate::survey::get_bounds_path;
+use crate::survey::survey;
 use plane::rect::Rect64;
 
 // The most points that a path may have and a store may have room for, and the largest turn allowance.
@@ -22,17 +21,6 @@ pub enum Admission {
     Refused(Refusal),
 }
 
-// Whether every coordinate is within the limit: a path that has points is, exactly if its bounds are.
-fn coordinates_in_limit(path: &[i64], bounds: Rect64) -> bool
-    requires { ⌜ Surveyed (now path) bounds ⌝ }
-    ensures { λ r. ⌜ r ≡ all-in-limit (now (path .entry)) ⌝ }
-{
-    if path.len() == 0 {
-        return true;
-    }
-    bounds.in_limit()
-}
-
 // Refusals 5, 6 and 7 of a path whose coordinates come in pairs.
 pub(crate) fn admit_sheet(rect: Rect64, path: &[i64]) -> Admission
     requires { ⌜ length (now path) % 2 ≡ 0 ⌝ }
@@ -44,10 +32,11 @@ pub(crate) fn admit_sheet(rect: Rect64, path: &[i64]) -> Admission
     if !rect.in_limit() {
         return Admission::Refused(Refusal::RectangleOutside);
     }
-    let bounds = get_bounds_path(path);
-    if !coordinates_in_limit(path, bounds) {
+    let seen = survey(path);
+    if !seen.in_limit {
         return Admission::Refused(Refusal::PathOutside);
     }
+    let bounds = seen.bounds;
     Admission::Admitted(bounds)
 }
 

@@ -1,11 +1,18 @@
-// A path's bounds.
+// A path surveyed: its bounds, and whether it is within the coordinate limit.
 ghost use mathlib.Core.Path.{_≡_};
 ghost use Rattle.plane.specs.Points.{points-of};
-ghost use Rattle.plane.specs.Rectangle.{grown, no-bounds, get-bounds-path};
+ghost use Rattle.plane.specs.Rectangle.{grown, no-bounds};
+ghost use Rattle.entry.specs.Survey.{survey};
 use plane::point::Point64;
 use plane::rect::Rect64;
 use plane::rect::max;
 use plane::rect::min;
+
+// A path's bounds, and whether every coordinate is within the limit.
+pub struct Extent {
+    pub bounds: Rect64,
+    pub in_limit: bool,
+}
 
 // The bounds of nothing: `Rect::invalid`.
 fn no_bounds() -> Rect64
@@ -35,9 +42,10 @@ fn grown(s: Rect64, p: Point64) -> Rect64
     }
 }
 
-// The bounds of a path; an odd last number is no point.
-pub fn get_bounds_path(path: &[i64]) -> Rect64
-    ensures { λ r. ⌜ r ≡ get-bounds-path (points-of (now (path .entry))) ⌝ }
+// The bounds of a path, as `get_bounds_path` gives them, and whether every coordinate is within the limit; an odd last number is no
+// point. One loop reads each coordinate once: a path that has points is within the limit exactly if its bounds are.
+pub fn survey(path: &[i64]) -> Extent
+    ensures { λ r. ⌜ r ≡ survey (points-of (now (path .entry))) ⌝ }
 {
     let mut bounds = no_bounds();
     let mut i: usize = 0;
@@ -47,5 +55,12 @@ pub fn get_bounds_path(path: &[i64]) -> Rect64
         bounds = grown(bounds, Point64 { x, y });
         i += 2;
     }
-    bounds
+    if path.len() < 2 {
+        return Extent {
+            bounds,
+            in_limit: true,
+        };
+    }
+    let in_limit = bounds.in_limit();
+    Extent { bounds, in_limit }
 }

@@ -49,15 +49,15 @@ unfolding execute is-walked
 execute-walked W A rect path h =
     walked-way (is-empty rect) (ltb (length path) 3) (intersects rect (get-bounds-path path)) (contains-rect rect (get-bounds-path path)) _ _ _ _ (walk-closed (no-room W) rect path >>= clip-walked A rect) h
 
-module _ {rect : Rect64} {path : List ℤ} {A : ℕ} {store : List ℤ} {work : List ℕ} (x : WalkClips rect path A store work) where
+module _ {rect : Rect64} {path : List ℤ} {bounds : Rect64} {A : ℕ} {store : List ℤ} {work : List ℕ} (x : WalkClips rect path bounds A store work) where
   extent : is-empty rect ≡ false
   extent = walked-not-empty rect (points-of path) (x .walked)
 
-  pub may-walk : Walks rect path store work
+  pub may-walk : Walks rect path bounds store work
   may-walk = record {
     room = record { cells = omega (arith, x .room .cells); small = omega (arith, x .room .few) };
     few = x .room .few;
-    paired = record { sheet = record { extent = extent; frame = x .frame; points = x .points }; even = x .even };
+    paired = record { sheet = record { extent = extent; frame = x .frame; points = x .points }; even = x .even; bound = x .bound };
   }
 
   module _ {store₁ : List ℤ} {work₁ : List ℕ} {r : Outlined} (d : Drawn (walk-closed (no-room (length store / 2)) rect (points-of path)) store₁ work₁ r) where
@@ -120,8 +120,8 @@ module _ {rect : Rect64} {path : List ℤ} {bounds : Rect64} {A : ℕ} {store : 
           unfolding is-walked
           is-walked-here = rw (e, long, f, g) tt
 
-          pub may-clip-path : WalkClips rect path A store work
-          may-clip-path = record { room = x .room; even = x .even; frame = x .frame; points = x .points; walked = is-walked-here }
+          pub may-clip-path : WalkClips rect path bounds A store work
+          may-clip-path = record { room = x .room; even = x .even; frame = x .frame; points = x .points; bound = x .bound; walked = is-walked-here }
 
           pub drawn-walked : execute (no-room (length store / 2)) A rect (points-of path) ≡ walk-drawing (no-room (length store / 2)) A rect (points-of path)
           drawn-walked = execute-walked (length store / 2) A rect (points-of path) is-walked-here

@@ -52,8 +52,8 @@ corner-reached rect e (suc (suc zero)) h = close-corner rect Right e
 corner-reached rect e (suc (suc (suc zero))) h = close-corner rect Bottom e
 corner-reached rect e (suc (suc (suc (suc i)))) h = absurd (omega arith)
 
-pub both-paths : {rect : Rect64} {path : List ℤ} {cs : List ℤ} → Paired rect path → cs ≡ coordinates-of (as-path rect) → BothPaths path cs
-both-paths {rect} {path} {cs} H e =
+pub both-paths : {rect : Rect64} {path : List ℤ} {bounds : Rect64} {cs : List ℤ} → Paired rect path bounds → cs ≡ coordinates-of (as-path rect) → BothPaths path cs
+both-paths {rect} {path} {bounds} {cs} H e =
     subst (λ (l : List ℤ). BothPaths path l) (sym e)
     (record {
       even = refl;

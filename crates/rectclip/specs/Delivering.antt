@@ -115,12 +115,13 @@ pub record OutlineClips (rect : Rect64) (A : ℕ) (store : List ℤ) (work : Lis
   pub entered : Entered (walked-of store work o)
   pub few : (paths : List (List Point64)) (turns : ℕ) → clip-walked A rect (walked-of store work o) ≡ ok (paths, turns) → (turns ≤ A) × (length paths ≤ turns + 1) × (length (joined paths) ≤ 65536)
 
--- a path that is walked
-pub record WalkClips (rect : Rect64) (path : List ℤ) (A : ℕ) (store : List ℤ) (work : List ℕ) : Type 0 where
+-- a path that is walked, and its bounds
+pub record WalkClips (rect : Rect64) (path : List ℤ) (bounds : Rect64) (A : ℕ) (store : List ℤ) (work : List ℕ) : Type 0 where
   pub room : Allowance A store work
   pub even : length path % 2 ≡ 0
   pub frame : rect-in-limit rect ≡ true
   pub points : all-in-limit path ≡ true
+  pub bound : bounds ≡ get-bounds-path (points-of path)
   pub walked : T (is-walked rect (points-of path))
 
 -- a call that no early refusal stopped, and the path's bounds

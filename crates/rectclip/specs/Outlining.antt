@@ -13,6 +13,7 @@ use Rattle.plane.specs.declared.location.Location.{Location}
 use Rattle.plane.specs.declared.location.Location.the-variants.{Left, Top, Right, Bottom}
 use Rattle.plane.specs.Basics.{if_then_else_, Try, refuse, ok, _>>=_}
 use Rattle.plane.specs.Locations.{side-number, same-location, heading-clockwise}
+use Rattle.plane.specs.Points.{points-of}
 use Rattle.plane.specs.Polygon.{path1-contains-path2}
 use Rattle.plane.specs.Rectangle.{as-path, mid-point, contains-point, get-bounds-path, corner}
 use Rattle.reference.specs.Walk.{Walk, State, add, retrace}
@@ -91,18 +92,19 @@ module _ (full : ℕ → Bool) (rect : Rect64) where
   close-walk s = retrace full rect (s .walk) (s .loc) (s .walk .start-locs) >>= λ t. corner-toward (t .0) (t .1) (s .first-cross)
 
 -- ---- what the functions ask
--- a sheet whose coordinates come in pairs
-pub record Paired (rect : Rect64) (path : List ℤ) : Type 0 where
+-- a sheet whose coordinates come in pairs, and the path's bounds
+pub record Paired (rect : Rect64) (path : List ℤ) (bounds : Rect64) : Type 0 where
   pub sheet : Sheet rect path
   pub even : length path % 2 ≡ 0
+  pub bound : bounds ≡ get-bounds-path (points-of path)
 
 -- a walk of it that fits the lists
-pub record Ends (rect : Rect64) (path store : List ℤ) (work : List ℕ) (s : WalkState) : Type 0 where
+pub record Ends (rect : Rect64) (path : List ℤ) (bounds : Rect64) (store : List ℤ) (work : List ℕ) (s : WalkState) : Type 0 where
   pub fits : Fits store work s
-  pub paired : Paired rect path
+  pub paired : Paired rect path bounds
 
 -- lists with room for a walk of it
-pub record Walks (rect : Rect64) (path store : List ℤ) (work : List ℕ) : Type 0 where
+pub record Walks (rect : Rect64) (path : List ℤ) (bounds : Rect64) (store : List ℤ) (work : List ℕ) : Type 0 where
   pub room : Room (length store / 2 + 1) work
   pub few : length store / 2 ≤ 65536
-  pub paired : Paired rect path
+  pub paired : Paired rect path bounds

@@ -23,7 +23,6 @@ use crate::walk::Step;
 use crate::walk::WalkState;
 use crate::walk::add_all;
 use entry::answer::Refusal;
-use entry::survey::get_bounds_path;
 use plane::crossing::Search;
 use plane::location::Location;
 use plane::rect::Rect64;
@@ -205,12 +204,11 @@ fn round_of(is_clockwise: bool) -> Round
     Round::CounterClockwise
 }
 
-// Whether the path contains the rectangle.
-fn contains_rect(rect: Rect64, path: &[i64]) -> bool
-    requires { ⌜ Paired rect (now path) ⌝ }
+// Whether the path contains the rectangle; its bounds are given, as the Rust has them in `path_bounds`.
+fn contains_rect(rect: Rect64, path: &[i64], bounds: Rect64) -> bool
+    requires { ⌜ Paired rect (now path) bounds ⌝ }
     ensures { λ r. ⌜ r ≡ path-contains rect (points-of (now (path .entry))) ⌝ }
 {
-    let bounds = get_bounds_path(path);
     if !bounds.contains_point(rect.mid_point()) {
         return false;
     }
@@ -222,14 +220,15 @@ fn contains_rect(rect: Rect64, path: &[i64]) -> bool
 fn surround(
     rect: Rect64,
     path: &[i64],
+    bounds: Rect64,
     store: &mut [i64],
     work: &mut [u32],
     s: WalkState,
 ) -> Outlined
-    requires { ⌜ Ends rect (now path) (now store) (now work) s ⌝ }
+    requires { ⌜ Ends rect (now path) bounds (now store) (now work) s ⌝ }
     ensures { λ r. ⌜ Drawn (surround (no-room (length (now (store .entry)) / 2)) rect (points-of (now (path .entry))) (walk-of (now (store .entry)) (now (work .entry)) s)) (now (store .exit)) (now (work .exit)) r ⌝ }
 {
-    if !contains_rect(rect, path) {
+    if !contains_rect(rect, path, bounds) {
         return outline_of(Step::Walked(s), Round::Never);
     }
     let n = s.start_locs;
@@ -242,12 +241,13 @@ fn surround(
 fn after_while(
     rect: Rect64,
     path: &[i64],
+    bounds: Rect64,
     store: &mut [i64],
     work: &mut [u32],
     starting_loc: Location,
     s: ClosedState,
 ) -> Outlined
-    requires { ⌜ Ends rect (now path) (now store) (now work) (s .walk) ⌝ }
+    requires { ⌜ Ends rect (now path) bounds (now store) (now work) (s .walk) ⌝ }
     ensures { λ r. ⌜ Drawn (after-while (no-room (length (now (store .entry)) / 2)) rect (points-of (now (path .entry))) «starting_loc» (closed-state-of (now (store .entry)) (now (work .entry)) s)) (now (store .exit)) (now (work .exit)) r ⌝ }
 {
     let walk = s.walk;
@@ -257,7 +257,7 @@ fn after_while(
         if starting_loc.is_inside() {
             return outline_of(Step::Walked(walk), Round::Never);
         }
-        return surround(rect, path, store, work, walk);
+        return surround(rect, path, bounds, store, work, walk);
     }
     if !loc.is_inside() & (!loc.equals(first) | (2 < walk.start_locs)) {
         return outline_of(close_outline(rect, store, work, s), Round::Never);
@@ -269,15 +269,16 @@ fn after_while(
 fn walk_from(
     rect: Rect64,
     path: &[i64],
+    bounds: Rect64,
     store: &mut [i64],
     work: &mut [u32],
     loc: Location,
 ) -> Outlined
-    requires { ⌜ Walks rect (now path) (now store) (now work) ⌝ }
+    requires { ⌜ Walks rect (now path) bounds (now store) (now work) ⌝ }
     ensures { λ r. ⌜ Drawn (walk-from (no-room (length (now (store .entry)) / 2)) rect (points-of (now (path .entry))) loc) (now (store .exit)) (now (work .exit)) r ⌝ }
 {
     match passes(rect, path, store, work, ClosedState::new(loc)) {
-        Advance::On(s) => after_while(rect, path, store, work, loc, s),
+        Advance::On(s) => after_while(rect, path, bounds, store, work, loc, s),
         Advance::Refused(why) => Outlined::Refused(why),
     }
 }
@@ -304,10 +305,11 @@ fn last_off(rect: Rect64, path: &[i64], n: usize) -> Search
 pub(crate) fn walk_closed(
     rect: Rect64,
     path: &[i64],
+    bounds: Rect64,
     store: &mut [i64],
     work: &mut [u32],
 ) -> Outlined
-    requires { ⌜ Walks rect (now path) (now store) (now work) ⌝ }
+    requires { ⌜ Walks rect (now path) bounds (now store) (now work) ⌝ }
     ensures { λ r. ⌜ Drawn (walk-closed (no-room (length (now (store .entry)) / 2)) rect (points-of (now (path .entry)))) (now (store .exit)) (now (work .exit)) r ⌝ }
 {
     let n = path.len() / 2;
@@ -317,13 +319,13 @@ pub(crate) fn walk_closed(
     let at_last = rect.get_location(point_at(path, n - 1));
     let loc = at_last.loc;
     if at_last.off {
-        return walk_from(rect, path, store, work, loc);
+        return walk_from(rect, path, bounds, store, work, loc);
     }
     let Search::Found(_, prev) = last_off(rect, path, n - 1) else {
         return outline_of(add_all(path, store, work, WalkState::new()), Round::Never);
     };
     if prev.is_inside() {
-        return walk_from(rect, path, store, work, Location::Inside);
+        return walk_from(rect, path, bounds, store, work, Location::Inside);
     }
-    walk_from(rect, path, store, work, loc)
+    walk_from(rect, path, bounds, store, work, loc)
 }

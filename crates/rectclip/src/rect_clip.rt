@@ -51,16 +51,17 @@ fn clip_outline(
 fn clip_path(
     rect: Rect64,
     path: &[i64],
+    bounds: Rect64,
     allowance: usize,
     store: &mut [i64],
     work: &mut [u32],
     coordinates: &mut [i64],
     lengths: &mut [u32],
 ) -> Answer
-    requires { ⌜ WalkClips rect (now path) allowance (now store) (now work) ⌝ }
+    requires { ⌜ WalkClips rect (now path) bounds allowance (now store) (now work) ⌝ }
     ensures { λ r. ⌜ Gives (walk-drawing (no-room (length (now (store .entry)) / 2)) allowance rect (points-of (now (path .entry)))) (now (coordinates .entry)) (now (lengths .entry)) r (now (coordinates .exit)) (now (lengths .exit)) ⌝ }
 {
-    match walk_closed(rect, path, store, work) {
+    match walk_closed(rect, path, bounds, store, work) {
         Outlined::Done(o) => clip_outline(rect, allowance, store, work, o, coordinates, lengths),
         Outlined::Refused(why) => Answer::Refused(why),
     }
@@ -93,7 +94,16 @@ fn draw_closed(
     if rect.contains_rect(bounds) {
         return deliver_copy(path, coordinates, lengths);
     }
-    clip_path(rect, path, allowance, store, work, coordinates, lengths)
+    clip_path(
+        rect,
+        path,
+        bounds,
+        allowance,
+        store,
+        work,
+        coordinates,
+        lengths,
+    )
 }
 
 impl RectClip64 {

@@ -1,26 +1,40 @@
 //! Time per call of the port, of the Rust and, with the feature `geos`, of GEOS's clip by rectangle, on the same drawings in
-//! one run, with ratios, as the tables of docs/PERFORMANCE.md.
+//! one run, with ratios, as the tables of docs/PERFORMANCE.md: both clippers, and *present*.
 //!
-//!     bench [MILLISECONDS [DRAWING]]                  how long each row is measured (600 unless given); one drawing's rows
-//!     bench --calls COUNT WHO CLIPPER DRAWING SIZE    so many calls of one of them and nothing else, for a profiler:
-//!                                                     port, Rust or GEOS; closed or lines; a drawing of the table; points
+//!     bench [MILLISECONDS [DRAWING]]              how long each row is measured (600 unless given); one drawing's rows
+//!     bench --calls COUNT WHO JOB DRAWING SIZE    so many calls of one of them and nothing else, for a profiler:
+//!                                                 port, Rust or GEOS; closed, lines or present; a drawing of the table; points
 //!
-//! The port's lists have W and A sized to the drawing; clearing them is part of every call. The Rust allocates as it does.
+//! The port's lists have W and A sized to the drawing; clearing them is part of every call. The Rust allocates as it does;
+//! for *present*, which it lacks, it takes the bounds by `get_bounds_path` and asks whether they meet the rectangle.
 //! GEOS's input is built before, and its result is freed in the call. The three take turns, batch by batch, and each figure
 //! is the fastest batch; a batch of more than two milliseconds is measured in processor time of the thread.
 
-use compare::judge::{path_of, rect_of, run, Kind, Rect, MAX_POINTS, MAX_TURNS};
+use compare::core::get_bounds_path;
+use compare::judge::{path_of, rect_of, run, Kind, Rect, Run, MAX_POINTS, MAX_TURNS};
 use compare::lists::least;
 use compare::random::Random;
 use compare::rectclip::{RectClip64, RectClipLines64};
-use port::harness::{clip, Lists};
-use port::KINDS;
+use port::harness::{clip, present, Lists};
 use std::hint::black_box;
 use std::time::{Duration, Instant};
 
 const SIZES: [usize; 4] = [16, 128, 1_024, 4_096];
 const RECT: Rect = [0, 0, 1_000_000, 1_000_000];
-const USAGE: &str = "usage: bench [MILLISECONDS [DRAWING]], or bench --calls COUNT WHO CLIPPER DRAWING SIZE";
+const USAGE: &str = "usage: bench [MILLISECONDS [DRAWING]], or bench --calls COUNT WHO JOB DRAWING SIZE";
+
+/// What a call does: a clipper by the path's kind, or *present*.
+#[derive(Clone, Copy)]
+enum Job {
+    Clip(Kind),
+    Present,
+}
+
+const JOBS: [(&str, &str, Job); 3] = [
+    ("closed", "Polygons", Job::Clip(Kind::Closed)),
+    ("lines", "Lines", Job::Clip(Kind::Open)),
+    ("present", "Present", Job::Present),
+];
 
 fn main() {
     let words: Vec<String> = std::env::args().skip(1).collect();
@@ -29,7 +43,7 @@ fn main() {
         [] => tables(600, None),
         [time] => tables(number(time), None),
         [time, drawing] => tables(number(time), Some(drawing)),
-        ["--calls", count, who, clipper, drawing, size] => calls(number(count), who, clipper, drawing, number(size)),
+        ["--calls", count, who, job, drawing, size] => calls(number(count), who, job, drawing, number(size)),
         _ => panic!("{USAGE}"),
     }
 }
@@ -38,42 +52,42 @@ fn number(word: &str) -> usize {
     word.parse().unwrap_or_else(|e| panic!("{word}: {e}; {USAGE}"))
 }
 
-fn clipper_name(kind: Kind) -> &'static str {
-    if kind == Kind::Closed {
-        "closed"
-    } else {
-        "lines"
-    }
-}
-
 fn tables(milliseconds: usize, only: Option<&str>) {
     #[cfg(feature = "geos")]
     println!("GEOS {}", port::geos::version());
-    KINDS.iter().for_each(|&kind| table(kind, Duration::from_millis(milliseconds as u64), only));
+    JOBS.iter().for_each(|&(_, title, job)| table(title, job, Duration::from_millis(milliseconds as u64), only));
 }
 
-/// One clipper on every drawing, or one alone, and every size.
-fn table(kind: Kind, time: Duration, only: Option<&str>) {
-    println!("\n## {}\n", if kind == Kind::Closed { "Polygons" } else { "Lines" });
+/// One job on every drawing, or one alone, and every size.
+fn table(title: &str, job: Job, time: Duration, only: Option<&str>) {
+    println!("\n## {title}\n");
     println!("| drawing | points | paths | turns | port ns | Rust ns | port / Rust | GEOS ns | port / GEOS |");
     println!("|---|---|---|---|---|---|---|---|---|");
     for (name, make) in DRAWINGS.into_iter().filter(|&(name, _)| only.is_none_or(|one| one == name)) {
         for size in SIZES {
             let path = make(size);
-            let run = run(kind, RECT, &path);
+            let counts = match job {
+                Job::Clip(kind) => counts_of(&run(kind, RECT, &path)),
+                Job::Present => "— | —".to_string(),
+            };
             let names = ["port", "Rust", "GEOS"];
-            let mut contestants = names.map(|who| contestant(who, kind, &path));
+            let mut contestants = names.map(|who| contestant(who, job, &path));
             let best = fastest(time, &mut contestants);
             let figure = |who: usize| best[who].map_or("—".to_string(), |ns| thousands(ns.round() as u64));
             let ratio = |who: usize| match (best[0], best[who]) {
                 (Some(port), Some(other)) => format!("{:.2}", port / other),
                 _ => "—".to_string(),
             };
-            let counts = [size, run.paths.len(), run.turns as usize].map(|n| thousands(n as u64)).join(" | ");
+            let size = thousands(size as u64);
             let [port, rust, geos] = [0, 1, 2].map(figure);
-            println!("| {name} | {counts} | {port} | {rust} | {} | {geos} | {} |", ratio(1), ratio(2));
+            println!("| {name} | {size} | {counts} | {port} | {rust} | {} | {geos} | {} |", ratio(1), ratio(2));
         }
     }
+}
+
+/// The paths and turns of a drawing.
+fn counts_of(run: &Run) -> String {
+    [run.paths.len() as u64, run.turns].map(thousands).join(" | ")
 }
 
 fn thousands(n: u64) -> String {
@@ -85,24 +99,41 @@ fn thousands(n: u64) -> String {
 }
 
 /// Calls of one contestant, and nothing else.
-fn calls(count: usize, who: &str, clipper: &str, drawing: &str, size: usize) {
-    let kind = KINDS.into_iter().find(|&kind| clipper_name(kind) == clipper).expect(USAGE);
+fn calls(count: usize, who: &str, job: &str, drawing: &str, size: usize) {
+    let (_, _, job) = JOBS.into_iter().find(|&(name, _, _)| name == job).expect(USAGE);
     let (_, make) = DRAWINGS.into_iter().find(|&(name, _)| name == drawing).expect(USAGE);
     let path = make(size);
-    let mut call = contestant(who, kind, &path).expect("it does this job");
+    let mut call = contestant(who, job, &path).expect("it does this job");
     (0..count).for_each(|_| call());
 }
 
 type Call<'a> = Box<dyn FnMut() + 'a>;
 
 /// One call of the named one, where it does the job.
-fn contestant<'a>(who: &str, kind: Kind, path: &'a [i64]) -> Option<Call<'a>> {
-    match who {
-        "port" => port_call(kind, path),
-        "Rust" => Some(rust_call(kind, path)),
-        "GEOS" => geos_call(kind, path),
+fn contestant<'a>(who: &str, job: Job, path: &'a [i64]) -> Option<Call<'a>> {
+    match (who, job) {
+        ("port", Job::Clip(kind)) => port_call(kind, path),
+        ("port", Job::Present) => Some(port_present(path)),
+        ("Rust", Job::Clip(kind)) => Some(rust_call(kind, path)),
+        ("Rust", Job::Present) => Some(rust_present(path)),
+        ("GEOS", Job::Clip(kind)) => geos_call(kind, path),
+        ("GEOS", Job::Present) => None,
         _ => panic!("{who}: {USAGE}"),
     }
+}
+
+fn port_present(path: &[i64]) -> Call<'_> {
+    assert_eq!(present(RECT, path), 1, "a path of {} points", path.len() / 2);
+    Box::new(move || {
+        black_box(present(RECT, black_box(path)));
+    })
+}
+
+fn rust_present(path: &[i64]) -> Call<'static> {
+    let (rect, path) = (rect_of(RECT), path_of(path));
+    Box::new(move || {
+        black_box(!rect.is_empty() && rect.intersects(&get_bounds_path(black_box(&path))));
+    })
 }
 
 /// Nothing where the drawing needs more than a call may have.
@@ -202,9 +233,10 @@ fn thread_time() -> f64 {
 }
 
 type Make = fn(usize) -> Vec<i64>;
-const DRAWINGS: [(&str, Make); 6] = [
+const DRAWINGS: [(&str, Make); 7] = [
     ("inside", inside),
     ("circle across the edges", circle),
+    ("circle round the rectangle", circle_round),
     ("random walk", random_walk),
     ("comb", comb),
     ("comb closed outside", closed_comb),
@@ -225,6 +257,11 @@ fn inside(size: usize) -> Vec<i64> {
 /// A circle across the four edges.
 fn circle(size: usize) -> Vec<i64> {
     round(size, 600_000.0)
+}
+
+/// A circle that contains the rectangle and does not meet it.
+fn circle_round(size: usize) -> Vec<i64> {
+    round(size, 1_000_000.0)
 }
 
 /// Steps to and fro around the rectangle.

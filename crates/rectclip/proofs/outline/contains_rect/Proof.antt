@@ -4,9 +4,6 @@ use borrow.Author.Needs.{needs}
 use Rattle.rectclip.proofs.outline.contains_rect.Statement.{statement}
 use Rattle.rectclip.proofs.outline.contains_rect.Tie as tie
 
-get-bounds-path-requires : tie.Need-get-bounds-path-requires
-get-bounds-path-requires c κs = search needs
-
 mid-point-requires : tie.Need-mid-point-requires
 mid-point-requires c κs = search needs
 
@@ -17,9 +14,8 @@ returns : tie.Need-returns
 returns c =
     let contains : tie.After-contains-point = search in
     let m : tie.After-mid-point = search in
-    let g : tie.After-get-bounds-path = search in
     let s : tie.Start = search in
-    contains-none (s .args .rect) (s .args .path .now) (g .get-bounds-path .ensures) (m .mid-point .ensures) (contains .contains-point .ensures) (c .if1 .taken)
+    contains-none (s .args .rect) (s .args .path .now) (s .pre .bound) (m .mid-point .ensures) (contains .contains-point .ensures) (c .if1 .taken)
 
 corners-requires : tie.Need-corners-requires
 corners-requires c κs = search needs
@@ -39,15 +35,13 @@ returns-2 c =
     let else1 : tie.Else1 = search in
     let contains : tie.After-contains-point = search in
     let m : tie.After-mid-point = search in
-    let g : tie.After-get-bounds-path = search in
     let s : tie.Start = search in
-    contains-asked (s .args .rect) (s .args .path .now) (g .get-bounds-path .ensures) (m .mid-point .ensures) (contains .contains-point .ensures) (else1 .if1 .left) (corners .corners .ensures) (c .path1-contains-path2 .ensures)
+    contains-asked (s .args .rect) (s .args .path .now) (s .pre .bound) (m .mid-point .ensures) (contains .contains-point .ensures) (else1 .if1 .left) (corners .corners .ensures) (c .path1-contains-path2 .ensures)
 
 pub contains-rect-spec : {M : Type 1} → statement M
 contains-rect-spec =
     tie.close
     (tie.spec
-    get-bounds-path-requires
     mid-point-requires
     contains-point-requires
     returns

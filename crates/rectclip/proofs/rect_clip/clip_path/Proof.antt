@@ -15,7 +15,7 @@ clip-outline-requires c κs =
     let o : tie.After-o = search in
     let w : tie.After-walk-closed = search in
     let s : tie.Start = search in
-    outline-clips (s .pre) (w .walk-closed .ensures) _ (o .o .given .1) (w .walk-closed .kept .1 .1 .0) (w .walk-closed .kept .1 .1 .1 .0)
+    outline-clips (s .pre) (w .walk-closed .ensures) _ (o .o .given .1) (w .walk-closed .kept .1 .1 .1 .0) (w .walk-closed .kept .1 .1 .1 .1 .0)
 
 enum-known-why : tie.Need-enum-known-why
 enum-known-why c = search needs

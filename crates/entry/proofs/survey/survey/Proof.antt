@@ -1,4 +1,4 @@
--- `get_bounds_path` meets its contract. The loop's invariant: the bounds so far, grown by the points that are left, are the path's. Assumes nothing.
+-- `survey` meets its contract. The loop's invariant: the bounds so far, grown by the points that are left, are the path's. Behind it they tell the limit. Assumes nothing.
 use mathlib.Core.Path.{_≡_, sym, ap, _∙_}
 use Prim.Native.Nat.{_+_, _-_, _≤_}
 use borrow.Author.Needs.{needs}
@@ -11,9 +11,9 @@ use mir.Facts.{toZ-ofZ}
 use Rattle.plane.specs.Points.{points-of}
 use Rattle.plane.specs.Rectangle.{bounds-from, get-bounds-path}
 use Rattle.plane.specs.declared.rect.Rect64.{Rect64}
-use Rattle.entry.proofs.PathBounds.{grow-step, grow-short}
-use Rattle.entry.proofs.survey.get_bounds_path.Statement.{statement}
-use Rattle.entry.proofs.survey.get_bounds_path.Tie as tie
+use Rattle.entry.proofs.PathBounds.{grow-step, grow-short, surveyed-none, surveyed-some}
+use Rattle.entry.proofs.survey.survey.Statement.{statement}
+use Rattle.entry.proofs.survey.survey.Tie as tie
 
 abbrev Inv-loop : tie.InvT-loop
 Inv-loop path bounds₀ i₀ bounds i = (bounds-from bounds (points-of (drop i path)) ≡ get-bounds-path (points-of path)) × (i ≤ length path)
@@ -63,15 +63,26 @@ loop-again c =
     let path = at .before .before .args .path .now in
     let fx : SFits w64 (getD path i (pos 0)) = search needs in
     let fy : SFits w64 (getD path (i + 1) (pos 0)) = search needs in
-    (ap (λ (s : Rect64). bounds-from s (points-of (drop (i + 2) path))) (simp toZ-ofZ at (c .grown .ensures)) ∙ sym (grow-step path i (at .loop .bounds) (inl .loop-test .taken)) ∙ at .loop .inv .0, search needs)
+    (grow-step path i (at .loop .bounds) (inl .loop-test .taken) (simp toZ-ofZ at (c .grown .ensures)) (at .loop .inv .0), search needs)
 
 returns : tie.Need-returns Inv-loop μ-loop
 returns c =
     let at : tie.At-loop Inv-loop μ-loop = search in
-    sym (grow-short (at .before .before .args .path .now) (at .loop .i) _ (search needs)) ∙ at .loop .inv .0
+    let path = at .before .before .args .path .now in
+    surveyed-none path (c .if1 .taken) (sym (grow-short path (at .loop .i) _ (search needs)) ∙ at .loop .inv .0)
 
-pub get-bounds-path-spec : {M : Type 1} → statement M
-get-bounds-path-spec =
+in-limit-requires : tie.Need-in-limit-requires Inv-loop μ-loop
+in-limit-requires c κs = search needs
+
+returns-2 : tie.Need-returns-2 Inv-loop μ-loop
+returns-2 c =
+    let at : tie.At-loop Inv-loop μ-loop = search in
+    let else1 : tie.Else1 Inv-loop μ-loop = search in
+    let path = at .before .before .args .path .now in
+    surveyed-some path (else1 .if1 .left) (sym (grow-short path (at .loop .i) _ (search needs)) ∙ at .loop .inv .0) (c .in-limit .ensures)
+
+pub survey-spec : {M : Type 1} → statement M
+survey-spec =
     tie.close
     (tie.spec
     Inv-loop
@@ -88,4 +99,6 @@ get-bounds-path-spec =
     add-i
     loop-less
     loop-again
-    returns)
+    returns
+    in-limit-requires
+    returns-2)
