@@ -1,7 +1,5 @@
-//! Writes the Rust at hand below OUT_DIR: core.rs as its text stands, and of rectclip.rs four copies:
-//! rectclip.rs, with the two steps of document 02's 2/13 put behind its float crossing, and counted.rs, the same with calls
-//! to `crate::tally` and `crate::reach` put in; unchanged.rs, the text as it stands, and unchanged_counted.rs, that with
-//! the calls to `crate::tally`.
+//! Writes the Rust at hand below OUT_DIR: core.rs and rectclip.rs as their text stands, and counted.rs,
+//! the text of rectclip.rs with calls to `crate::tally` and `crate::reach` put in.
 //! The text is read from ../../shared/docs/src, or from the folder that CLIPPER2_RUST_SRC names.
 
 use std::path::{Path, PathBuf};
@@ -14,15 +12,8 @@ struct Change {
     times: usize,
 }
 
-/// The end of `get_segment_intersection`: both clippers have every float crossing from here.
-const STEPS: Change = Change {
-    text: "    get_segment_intersect_pt(p1, p2, p3, p4, ip)\n",
-    instead: "    get_segment_intersect_pt(p1, p2, p3, p4, ip) && { crate::steps::hold_to_edge(p3, p4, ip); true }\n",
-    times: 1,
-};
-
-/// The calls to `crate::tally`. None alters what is computed.
-const CALLS: [Change; 13] = [
+/// The changes that make counted.rs of rectclip.rs. Each only adds a call; none alters what is computed.
+const CHANGES: [Change; 7] = [
     // A path is walked: once in each clipper.
     Change {
         text: "self.execute_internal(path);",
@@ -45,39 +36,16 @@ const CALLS: [Change; 13] = [
         instead: "self.start_locs.push(prev); crate::tally::start_side();",
         times: 2,
     },
-    // The first search of a segment begins behind this, closed and open.
-    Change {
-        text: "let mut ip2 = Point64::new(0, 0);",
-        instead: "let mut ip2 = Point64::new(0, 0); crate::tally::search(crate::tally::FIRST);",
-        times: 2,
-    },
     // The second search of a passing segment, closed and open.
     Change {
         text: "get_intersection(&rect_as_path, prev_pt, path[i], &mut loc, &mut ip2);",
-        instead: "crate::tally::search(crate::tally::SECOND); \
-                  crate::tally::second_search(get_intersection(&rect_as_path, prev_pt, path[i], &mut loc, &mut ip2));",
+        instead: "crate::tally::second_search(get_intersection(&rect_as_path, prev_pt, path[i], &mut loc, &mut ip2));",
         times: 1,
     },
     Change {
         text: "get_intersection(&rect_as_path, prev_pt, path[i], &mut crossing_loc, &mut ip2);",
-        instead: "crate::tally::search(crate::tally::SECOND); \
-                  crate::tally::second_search(get_intersection(&rect_as_path, prev_pt, path[i], &mut crossing_loc, &mut ip2));",
+        instead: "crate::tally::second_search(get_intersection(&rect_as_path, prev_pt, path[i], &mut crossing_loc, &mut ip2));",
         times: 1,
-    },
-    // A float crossing, before the two steps where they follow.
-    Change {
-        text: "get_segment_intersect_pt(p1, p2, p3, p4, ip)",
-        instead: "get_segment_intersect_pt(p1, p2, p3, p4, ip) && { crate::tally::crossing(p3, p4, *ip); true }",
-        times: 1,
-    },
-    Change { text: "if ip == ip2 {", instead: "if crate::tally::one_point(ip == ip2) {", times: 1 },
-    // What a search gave goes to `add`: once in the closed clipper and three times in the open one; and once in each.
-    Change { text: "self.add(ip, ", instead: "self.add(crate::tally::given_by(crate::tally::FIRST, ip), ", times: 4 },
-    Change { text: "self.add(ip2, ", instead: "self.add(crate::tally::given_by(crate::tally::SECOND, ip2), ", times: 2 },
-    Change {
-        text: "fn add(&mut self, pt: Point64, start_new: bool) -> usize {",
-        instead: "fn add(&mut self, pt: Point64, start_new: bool) -> usize { crate::tally::asked(pt, start_new);",
-        times: 2,
     },
     // A pass of the outer loop of tidy_edges begins.
     Change {
@@ -87,19 +55,15 @@ const CALLS: [Change; 13] = [
     },
 ];
 
-const MODULES: [&str; 5] = ["core", "rectclip", "counted", "unchanged_counted", "unchanged"];
-
 fn main() {
     let out = PathBuf::from(env::var_os("OUT_DIR").expect("cargo sets OUT_DIR"));
     let folder = source_folder();
     let core = read_source(&folder, "core");
-    let unchanged = read_source(&folder, "rectclip");
-    let rectclip = changed(&unchanged, &[STEPS]);
-    let (counted, lines) = marked(&changed(&rectclip, &CALLS));
-    let texts = [core, rectclip, counted, changed(&unchanged, &CALLS), unchanged];
-    for (name, text) in MODULES.iter().zip(texts) {
-        fs::write(out.join(format!("{name}.rs")), text).unwrap();
-    }
+    let rectclip = read_source(&folder, "rectclip");
+    fs::write(out.join("core.rs"), core).unwrap();
+    let (counted, lines) = marked(&counted(&rectclip));
+    fs::write(out.join("counted.rs"), counted).unwrap();
+    fs::write(out.join("rectclip.rs"), rectclip).unwrap();
     // Both texts name their test files, which are not at hand.
     fs::write(out.join("core_tests.rs"), "").unwrap();
     fs::write(out.join("rectclip_tests.rs"), "").unwrap();
@@ -128,9 +92,9 @@ fn read_source(folder: &Path, name: &str) -> String {
     fs::read_to_string(&file).unwrap_or_else(|e| panic!("{}: {e}", file.display()))
 }
 
-/// A text with every change made, each at exactly the expected number of places.
-fn changed(rectclip: &str, changes: &[Change]) -> String {
-    changes.iter().fold(rectclip.to_string(), |text, change| {
+/// rectclip.rs with every change made, each at exactly the expected number of places.
+fn counted(rectclip: &str) -> String {
+    CHANGES.iter().fold(rectclip.to_string(), |text, change| {
         let found = text.matches(change.text).count();
         assert!(
             found == change.times,
@@ -169,6 +133,6 @@ fn root(out: &Path, lines: &[usize]) -> String {
         let file = out.join(format!("{name}.rs"));
         format!("#[allow(dead_code, clippy::all)]\n#[path = {file:?}]\npub mod {name};\n")
     };
-    let modules = MODULES.map(module).concat();
+    let modules = ["core", "rectclip", "counted"].map(module).concat();
     format!("{modules}const MARKED_LINES: &[usize] = &{lines:?};\n")
 }

@@ -56,30 +56,6 @@ def rounding():
     return f.done()
 
 
-def held():
-    """Reference drawing 3: the float crossing, cut one unit into the neighbour's bay, and the point put on its edge."""
-    f = Figure(640, 210)
-    f.rect(330, 20, 290, 150, "#f4f7fa", "#f4f7fa")
-    for i in range(3):
-        x = 90 + 240 * i
-        f.path([(x, 20), (x, 170)], GREY, dash="2 4", width=1)
-        f.text(x, 194, f"x = {i}", GREY, "middle")
-    f.path([(330, 20), (330, 170)], BLACK, width=3)
-    f.text(200, 38, "the neighbour's bay", GREY, "middle")
-    f.text(450, 38, "the owner's rectangle", GREY, "middle")
-    f.path([(620, 100), (30, 100)], GREY, arrow=True)
-    f.text(612, 92, "from 49,10 to 0,10", GREY, "end")
-    f.path([(320, 128), (94, 128)], RED, arrow=True)
-    f.text(210, 146, "cut toward zero", RED, "middle")
-    f.path([(94, 74), (322, 74)], GREEN, arrow=True)
-    f.text(210, 66, "the step across", GREEN, "middle")
-    f.dot(322, 100, RED, 3)
-    f.dot(90, 100, RED)
-    f.dot(330, 100, GREEN, 5)
-    f.text(340, 122, "1,10", GREEN)
-    return f.done()
-
-
 def depths():
     """The depths of a segment's ends over two neighbouring sides."""
     f = Figure(640, 250)
@@ -175,7 +151,7 @@ def slots():
     return f.done()
 
 
-FIGURES = {"rounding": rounding, "held": held, "depths": depths, "walk": walk, "rings": rings, "detour": detour, "slots": slots}
+FIGURES = {"rounding": rounding, "depths": depths, "walk": walk, "rings": rings, "detour": detour, "slots": slots}
 
 
 def main():

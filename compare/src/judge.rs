@@ -1,10 +1,9 @@
-//! Document 01's answer for one path, from the Rust at hand: the Rust with the two steps of document 02's 2/13.
+//! Document 01's answer for one path, from the Rust at hand.
 //!
 //! `run` is what the Rust does with a path, whatever lists are lent; `clip` adds the refusals.
 
 use crate::core::{get_bounds_path, Path64, Paths64, Point64, Rect64};
-use crate::tally::{self, Event};
-use crate::{counted, rectclip, unchanged, unchanged_counted};
+use crate::{counted, rectclip, tally};
 use std::panic::{catch_unwind, resume_unwind};
 
 /// The coordinate limit, either way.
@@ -232,65 +231,45 @@ pub fn signed_words(bytes: &[u8]) -> Vec<i64> {
     bytes.chunks_exact(4).map(|b| i32::from_le_bytes(b.try_into().unwrap()).into()).collect()
 }
 
-/// What the Rust with the two steps does with one path within the limits. Stops with the input if its two copies differ, or
-/// one fails.
+/// What the Rust does with one path within the limits. Stops with the input if the two copies differ, or one fails.
 pub fn run(kind: Kind, rect: Rect, path: &[i64]) -> Run {
-    traced(&WITH_STEPS, kind, rect, path).0
-}
-
-/// A copy of rectclip.rs: the returned paths of a call.
-type Copy = fn(Kind, Rect64, &Paths64) -> Paths64;
-
-/// A Rust: its text, and its text with calls to `tally`.
-pub(crate) struct Rust {
-    counted: Copy,
-    plain: Copy,
-}
-
-macro_rules! copy {
-    ($module:ident) => {
-        |kind, rect, paths| match kind {
-            Kind::Closed => $module::RectClip64::new(rect).execute(paths),
-            Kind::Open => $module::RectClipLines64::new(rect).execute(paths),
-        }
-    };
-}
-
-/// The Rust with the two steps of document 02's 2/13: the judge.
-pub(crate) const WITH_STEPS: Rust = Rust { counted: copy!(counted), plain: copy!(rectclip) };
-/// The Rust without them, for `crate::moved` alone.
-pub(crate) const UNCHANGED: Rust = Rust { counted: copy!(unchanged_counted), plain: copy!(unchanged) };
-
-/// What a Rust does with one path within the limits, and what its walk does. Stops with the input if its two copies differ,
-/// or one fails.
-pub(crate) fn traced(rust: &Rust, kind: Kind, rect: Rect, path: &[i64]) -> (Run, Vec<Event>) {
     assert!(
         path.len().is_multiple_of(2) && in_limit(&rect) && in_limit(path),
         "the Rust is called within the limits only"
     );
-    catch_unwind(|| both_copies(rust, kind, rect, path)).unwrap_or_else(|cause| {
+    catch_unwind(|| both_copies(kind, rect, path)).unwrap_or_else(|cause| {
         eprintln!("on {kind:?}, rectangle {rect:?}, path {path:?}");
         resume_unwind(cause)
     })
 }
 
 /// The counted copy first, since it ends a loop that runs away.
-fn both_copies(rust: &Rust, kind: Kind, rect: Rect, path: &[i64]) -> (Run, Vec<Event>) {
+fn both_copies(kind: Kind, rect: Rect, path: &[i64]) -> Run {
     let paths = vec![path_of(path)];
     tally::take();
-    let counted = (rust.counted)(kind, rect_of(rect), &paths);
+    let counted = match kind {
+        Kind::Closed => counted::RectClip64::new(rect_of(rect)).execute(&paths),
+        Kind::Open => counted::RectClipLines64::new(rect_of(rect)).execute(&paths),
+    };
     let tally = tally::take();
-    let plain = (rust.plain)(kind, rect_of(rect), &paths);
-    assert!(counted == plain, "the counted copy answers {counted:?}, the other one {plain:?}");
-    let run = Run {
-        paths: plain.iter().map(|p| coordinates_of(p)).collect(),
+    let unchanged = unchanged_copy(kind, rect, &paths);
+    assert!(counted == unchanged, "the counted copy answers {counted:?}, the unchanged one {unchanged:?}");
+    Run {
+        paths: unchanged.iter().map(|p| coordinates_of(p)).collect(),
         walked: tally.walked,
         stored: coordinates_of(&tally.points),
         start_sides: tally.start_sides,
         missed: tally.missed,
         turns: tally.turns,
-    };
-    (run, tally.events)
+    }
+}
+
+/// The Rust itself.
+fn unchanged_copy(kind: Kind, rect: Rect, paths: &Paths64) -> Paths64 {
+    match kind {
+        Kind::Closed => rectclip::RectClip64::new(rect_of(rect)).execute(paths),
+        Kind::Open => rectclip::RectClipLines64::new(rect_of(rect)).execute(paths),
+    }
 }
 
 /// The signed area of a ring of points, doubled.

@@ -1,6 +1,5 @@
-//! Where a returned point may come from, as document 01 and document 02's 2/13 have it: an input point in or on the
-//! rectangle, a corner, or a point of an edge less than 1 + 1/33,554,432 from the exact crossing of an input segment with
-//! that edge, in whole numbers.
+//! Where a returned point may come from, as document 01 has it: an input point in or on the rectangle, a corner, or on each
+//! axis less than 1 + 1/33,554,432 from the exact crossing of an input segment with an edge, in whole numbers.
 
 use crate::judge::{coordinates_of, rect_of, Kind, Rect, MAX_COORDINATE};
 use std::collections::{HashMap, HashSet};
@@ -38,12 +37,12 @@ impl Sources {
         self.points.contains(&p) || (0..4).any(|i| self.near_crossing(i, p))
     }
 
-    /// Whether p is on this edge, near a crossing with it. The crossing's whole part is at most two from p's coordinate.
+    /// Whether p is near a crossing with this edge. The whole part of such a crossing is at most two from p's coordinate.
     fn near_crossing(&self, i: usize, p: Point) -> bool {
         let edge = &self.edges[i];
         let along = p[1 - edge.across];
         let close = (along - 2..=along + 1).filter_map(|whole| self.crossings.get(&(i, whole)));
-        edge.has(p) && close.flatten().any(|crossing| crossing.is_near(along))
+        close.flatten().any(|crossing| crossing.is_near(edge, p))
     }
 }
 
@@ -68,11 +67,6 @@ struct Crossing {
 }
 
 impl Edge {
-    /// Whether p is on the edge: on its line, and between its ends.
-    fn has(&self, p: Point) -> bool {
-        p[self.across] == self.line && (self.low..=self.high).contains(&p[1 - self.across])
-    }
-
     /// The exact crossing with the segment from a to b.
     fn crossing(&self, a: Point, b: Point) -> Option<Crossing> {
         let (across, other) = (self.across, 1 - self.across);
@@ -93,10 +87,13 @@ impl Crossing {
         self.along.div_euclid(self.extent) as i64
     }
 
-    /// Whether a coordinate along the edge is within the bound, whose sides are multiplied by the extent and by the limit.
-    fn is_near(&self, along: i64) -> bool {
-        let limit = i128::from(MAX_COORDINATE);
-        (i128::from(along) * self.extent - self.along).abs() * limit < self.extent * (limit + 1)
+    /// Both sides of the bound are multiplied by the extent and by the limit.
+    fn is_near(&self, edge: &Edge, p: Point) -> bool {
+        let (limit, extent) = (i128::from(MAX_COORDINATE), self.extent);
+        let close = |coordinate: i64, crossing: i128| {
+            (i128::from(coordinate) * extent - crossing).abs() * limit < extent * (limit + 1)
+        };
+        close(p[edge.across], i128::from(edge.line) * extent) && close(p[1 - edge.across], self.along)
     }
 }
 
@@ -120,25 +117,9 @@ mod tests {
     fn near_is_at_most_a_little_over_one() {
         // The line 0,0 to 3,10 crosses the edge y = 5 at x = 3/2.
         let sources = Sources::of(Kind::Open, [-20, 5, 20, 30], &[0, 0, 3, 10]);
-        assert!(sources.has([1, 5]) && sources.has([2, 5]));
-        assert!(!sources.has([0, 5]) && !sources.has([3, 5]));
-        // Half of what the bound is over one, and all of it.
-        assert!(Crossing { along: (1 << 26) + 1, extent: 1 << 26 }.is_near(0));
-        assert!(!Crossing { along: (1 << 26) + 2, extent: 1 << 26 }.is_near(0));
-    }
-
-    #[test]
-    fn a_point_off_its_edge_is_no_source() {
-        // The same crossing, and the crossing of 0,0 to 20,1 with the edge x = 19 at y = 19/20, one unit from its end.
-        let level = Sources::of(Kind::Open, [-20, 5, 20, 30], &[0, 0, 3, 10]);
-        assert!(!level.has([2, 4]) && !level.has([1, 4]) && !level.has([1, 6]) && !level.has([2, 6]));
-        let upright = Sources::of(Kind::Open, [-20, -20, 19, 1], &[0, 0, 20, 1]);
-        assert!(upright.has([19, 1]) && upright.has([19, 0]));
-        assert!(!upright.has([18, 1]) && !upright.has([20, 1]) && !upright.has([20, 0]));
-        let end = Edge { across: 0, line: 19, low: -20, high: 1 };
-        assert!(
-            end.has([19, 1]) && end.has([19, -20]) && !end.has([19, 2]) && !end.has([19, -21]) && !end.has([18, 0])
-        );
+        let near = |p: Point| sources.has(p);
+        assert!(near([1, 5]) && near([2, 5]) && near([2, 4]) && near([1, 6]));
+        assert!(!near([0, 5]) && !near([3, 5]) && !near([1, 3]) && !near([1, 7]));
     }
 
     #[test]

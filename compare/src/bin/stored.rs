@@ -1,4 +1,4 @@
-//! Writes drawings with the answers of the Rust with the two steps of 2/13, in the form that the replay program reads:
+//! Writes drawings with the answers of the unchanged Rust, in the form that the replay program reads:
 //!
 //!     stored SEED COUNT > ../crates/replay/stdin    the drawings of kept.txt, some long ones, and so many random ones
 //!
@@ -71,8 +71,7 @@ struct Stored<W: Write> {
 impl<W: Write> Stored<W> {
     fn heading(&mut self, seed: u64, count: u64) -> io::Result<()> {
         self.line(
-            "# Drawings with the answers of the Rust with the two steps of 2/13; \
-             the form is described in compare/src/bin/stored.rs.",
+            "# Drawings with the answers of the unchanged Rust; the form is described in compare/src/bin/stored.rs.",
         )?;
         self.line(&format!(
             "# Made in compare/ by: cargo run --offline --bin stored {seed} {count} > ../crates/replay/stdin"

@@ -23,7 +23,7 @@ table1 =
     L (R (pos 0) (pos 0) (pos 100) (pos 100)) 256 ((minus 50) ∷ (pos 10) ∷ (pos 150) ∷ (pos 10) ∷ [])
     (returned 1 2 0 ((pos 0) ∷ (pos 10) ∷ (pos 100) ∷ (pos 10) ∷ (pos 7) ∷ (pos 7) ∷ []) (2 ∷ 7 ∷ []) []) ∷
     L (R (pos 1) (pos 0) (pos 100) (pos 100)) 256 ((pos 49) ∷ (pos 10) ∷ (pos 0) ∷ (pos 10) ∷ [])
-    (returned 1 2 0 ((pos 49) ∷ (pos 10) ∷ (pos 1) ∷ (pos 10) ∷ (pos 7) ∷ (pos 7) ∷ []) (2 ∷ 7 ∷ []) []) ∷
+    (returned 1 2 0 ((pos 49) ∷ (pos 10) ∷ (pos 0) ∷ (pos 10) ∷ (pos 7) ∷ (pos 7) ∷ []) (2 ∷ 7 ∷ []) []) ∷
     U (R (pos 0) (pos 0) (pos 100) (pos 100)) 256 256 ((pos 0) ∷ (pos 0) ∷ (pos 100) ∷ (pos 0) ∷ (pos 100) ∷ (pos 100) ∷ [])
     (returned 1 3 0 ((pos 0) ∷ (pos 0) ∷ (pos 100) ∷ (pos 0) ∷ (pos 100) ∷ (pos 100) ∷ (pos 7) ∷ (pos 7) ∷ []) (3 ∷ 7 ∷ []) []) ∷
     U (R (pos 5) (pos 0) (pos 5) (pos 9)) 256 256 ((pos 0) ∷ (pos 0) ∷ (pos 9) ∷ (pos 0) ∷ (pos 9) ∷ (pos 9) ∷ [])

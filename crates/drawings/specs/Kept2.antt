@@ -154,14 +154,6 @@ table4 =
     (returned 2 6 0 ((pos 250) ∷ (pos 290) ∷ (pos 280) ∷ (pos 230) ∷ (pos 290) ∷ (pos 180) ∷ (pos 408) ∷ (pos 180) ∷ (pos 420) ∷ (pos 240) ∷ (pos 380) ∷ (pos 290) ∷ (pos 7) ∷ (pos 7) ∷ []) (3 ∷ 3 ∷ 7 ∷ []) []) ∷
     L (R (pos 220) (pos 180) (pos 460) (pos 310)) 256 ((pos 250) ∷ (pos 290) ∷ (pos 280) ∷ (pos 230) ∷ (pos 300) ∷ (pos 130) ∷ (pos 350) ∷ (pos 90) ∷ (pos 400) ∷ (pos 140) ∷ (pos 420) ∷ (pos 240) ∷ (pos 380) ∷ (pos 290) ∷ [])
     (returned 2 6 0 ((pos 250) ∷ (pos 290) ∷ (pos 280) ∷ (pos 230) ∷ (pos 290) ∷ (pos 180) ∷ (pos 408) ∷ (pos 180) ∷ (pos 420) ∷ (pos 240) ∷ (pos 380) ∷ (pos 290) ∷ (pos 7) ∷ (pos 7) ∷ []) (3 ∷ 3 ∷ 7 ∷ []) []) ∷
-    L (R (pos 0) (pos 1) (pos 100) (pos 100)) 256 ((pos 10) ∷ (pos 49) ∷ (pos 10) ∷ (pos 0) ∷ [])
-    (returned 1 2 0 ((pos 10) ∷ (pos 49) ∷ (pos 10) ∷ (pos 1) ∷ (pos 7) ∷ (pos 7) ∷ []) (2 ∷ 7 ∷ []) []) ∷
-    L (R (minus 100) (pos 0) (minus 1) (pos 100)) 256 ((minus 49) ∷ (pos 10) ∷ (pos 0) ∷ (pos 10) ∷ [])
-    (returned 1 2 0 ((minus 49) ∷ (pos 10) ∷ (minus 1) ∷ (pos 10) ∷ (pos 7) ∷ (pos 7) ∷ []) (2 ∷ 7 ∷ []) []) ∷
-    L (R (pos 0) (minus 100) (pos 100) (minus 1)) 256 ((pos 10) ∷ (minus 49) ∷ (pos 10) ∷ (pos 0) ∷ [])
-    (returned 1 2 0 ((pos 10) ∷ (minus 49) ∷ (pos 10) ∷ (minus 1) ∷ (pos 7) ∷ (pos 7) ∷ []) (2 ∷ 7 ∷ []) []) ∷
-    L (R (pos 1) (minus 10) (pos 100) (pos 100)) 256 ((pos 49) ∷ (pos 49) ∷ (pos 0) ∷ (pos 0) ∷ [])
-    (returned 1 2 0 ((pos 49) ∷ (pos 49) ∷ (pos 1) ∷ (pos 0) ∷ (pos 7) ∷ (pos 7) ∷ []) (2 ∷ 7 ∷ []) []) ∷
     []
 
 drawings4 : map shown table4 ≡ map (λ c. c.expected) table4

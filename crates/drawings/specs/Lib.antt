@@ -1,8 +1,7 @@
--- Drawings with the answers of the Rust with the two steps of 2/13, as tables that hold by computation: compare/kept.txt, and random ones.
+-- Drawings with the answers of the unchanged Rust, as tables that hold by computation: compare/kept.txt, and random ones.
 pub mod Cases
 pub mod Kept1
 pub mod Kept2
-pub mod Kept3
 pub mod Random1
 pub mod Random2
 pub mod Random3

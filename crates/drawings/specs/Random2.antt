@@ -27,7 +27,7 @@ table1 =
     C (R (minus 21) (minus 122) (pos 282) (pos 548)) 12 256 ((pos 1606) ∷ (pos 295) ∷ (minus 659) ∷ (minus 642) ∷ (pos 278) ∷ (pos 1623) ∷ (pos 1215) ∷ (minus 642) ∷ (minus 1050) ∷ (pos 295) ∷ (pos 1215) ∷ (pos 1232) ∷ (pos 278) ∷ (minus 1033) ∷ (minus 659) ∷ (pos 1232) ∷ [])
     (refusal 8 ((minus 21) ∷ (pos 548) ∷ (pos 282) ∷ (pos 548) ∷ (pos 282) ∷ (minus 122) ∷ (minus 21) ∷ (minus 122) ∷ [])) ∷
     C (R (pos 33) (minus 148) (pos 94) (pos 447)) 256 256 ((pos 717) ∷ (minus 454) ∷ (minus 23) ∷ (pos 175) ∷ (pos 350) ∷ (pos 608) ∷ (pos 45) ∷ (minus 526) ∷ (pos 447) ∷ (minus 20) ∷ (pos 877) ∷ (pos 978) ∷ (pos 351) ∷ (pos 71) ∷ [])
-    (returned 1 4 0 ((pos 33) ∷ (pos 240) ∷ (pos 94) ∷ (pos 310) ∷ (pos 94) ∷ (pos 75) ∷ (pos 33) ∷ (pos 127) ∷ (pos 7) ∷ (pos 7) ∷ []) (4 ∷ 7 ∷ []) ((pos 94) ∷ (pos 75) ∷ (pos 33) ∷ (pos 127) ∷ (pos 33) ∷ (pos 240) ∷ (pos 94) ∷ (pos 310) ∷ (pos 94) ∷ (minus 148) ∷ [])) ∷
+    (returned 1 4 0 ((pos 32) ∷ (pos 240) ∷ (pos 94) ∷ (pos 310) ∷ (pos 94) ∷ (pos 75) ∷ (pos 33) ∷ (pos 127) ∷ (pos 7) ∷ (pos 7) ∷ []) (4 ∷ 7 ∷ []) ((pos 94) ∷ (pos 75) ∷ (pos 33) ∷ (pos 127) ∷ (pos 32) ∷ (pos 240) ∷ (pos 94) ∷ (pos 310) ∷ (pos 94) ∷ (minus 148) ∷ [])) ∷
     C (R (pos 0) (pos 0) (pos 60) (pos 60)) 3 256 ((minus 4) ∷ (pos 25) ∷ (minus 2) ∷ (pos 25) ∷ (pos 0) ∷ (pos 26) ∷ (pos 6) ∷ (pos 35) ∷ (pos 6) ∷ (pos 35) ∷ (minus 1) ∷ (pos 38) ∷ [])
     (returned 1 3 0 ((pos 0) ∷ (pos 37) ∷ (pos 0) ∷ (pos 26) ∷ (pos 6) ∷ (pos 35) ∷ (pos 7) ∷ (pos 7) ∷ []) (3 ∷ 7 ∷ []) ((pos 0) ∷ (pos 26) ∷ (pos 6) ∷ (pos 35) ∷ (pos 0) ∷ (pos 37) ∷ [])) ∷
     C (R (minus 378) (pos 368) (pos 252) (pos 938)) 256 0 ((minus 174) ∷ (pos 842) ∷ (minus 174) ∷ (pos 990) ∷ (minus 470) ∷ (pos 990) ∷ (minus 470) ∷ (pos 694) ∷ (minus 26) ∷ (pos 694) ∷ (minus 26) ∷ (pos 1138) ∷ (minus 618) ∷ (pos 1138) ∷ (minus 618) ∷ (pos 546) ∷ (pos 122) ∷ (pos 546) ∷ (pos 122) ∷ (pos 1286) ∷ (minus 766) ∷ (pos 1286) ∷ (minus 766) ∷ (pos 398) ∷ (pos 270) ∷ (pos 398) ∷ [])

@@ -75,7 +75,7 @@ table2 =
     C (R (minus 41) (pos 255) (pos 416) (pos 329)) 7 256 ((minus 331) ∷ (pos 180) ∷ (minus 324) ∷ (minus 5) ∷ (pos 920) ∷ (pos 25) ∷ (minus 81) ∷ (pos 691) ∷ (minus 809) ∷ (minus 598) ∷ (minus 798) ∷ (pos 309) ∷ (minus 915) ∷ (minus 632) ∷ (pos 514) ∷ (minus 983) ∷ (pos 868) ∷ (pos 388) ∷ [])
     (returned 1 7 0 ((pos 416) ∷ (pos 255) ∷ (pos 416) ∷ (pos 309) ∷ (pos 101) ∷ (pos 255) ∷ (pos 416) ∷ (pos 255) ∷ (pos 416) ∷ (pos 329) ∷ (minus 41) ∷ (pos 329) ∷ (minus 41) ∷ (pos 255) ∷ (pos 7) ∷ (pos 7) ∷ []) (7 ∷ 7 ∷ []) ((pos 416) ∷ (pos 309) ∷ (pos 101) ∷ (pos 255) ∷ (pos 416) ∷ (pos 255) ∷ (pos 416) ∷ (pos 329) ∷ (minus 41) ∷ (pos 329) ∷ (minus 41) ∷ (pos 255) ∷ (pos 416) ∷ (pos 255) ∷ [])) ∷
     L (R (minus 1) (minus 131) (pos 455) (pos 296)) 256 ((pos 842) ∷ (pos 9) ∷ (minus 1746) ∷ (pos 9) ∷ (pos 842) ∷ (pos 9) ∷ (minus 1746) ∷ (pos 9) ∷ (pos 842) ∷ (pos 9) ∷ (minus 1746) ∷ (pos 9) ∷ (pos 842) ∷ (pos 9) ∷ (minus 1746) ∷ (pos 9) ∷ (pos 842) ∷ (pos 9) ∷ (minus 1746) ∷ (pos 9) ∷ (minus 1746) ∷ (pos 9) ∷ [])
-    (returned 9 18 0 ((pos 455) ∷ (pos 9) ∷ (minus 1) ∷ (pos 9) ∷ (minus 1) ∷ (pos 9) ∷ (pos 455) ∷ (pos 9) ∷ (pos 455) ∷ (pos 9) ∷ (minus 1) ∷ (pos 9) ∷ (minus 1) ∷ (pos 9) ∷ (pos 455) ∷ (pos 9) ∷ (pos 455) ∷ (pos 9) ∷ (minus 1) ∷ (pos 9) ∷ (minus 1) ∷ (pos 9) ∷ (pos 455) ∷ (pos 9) ∷ (pos 455) ∷ (pos 9) ∷ (minus 1) ∷ (pos 9) ∷ (minus 1) ∷ (pos 9) ∷ (pos 455) ∷ (pos 9) ∷ (pos 455) ∷ (pos 9) ∷ (minus 1) ∷ (pos 9) ∷ (pos 7) ∷ (pos 7) ∷ []) (2 ∷ 2 ∷ 2 ∷ 2 ∷ 2 ∷ 2 ∷ 2 ∷ 2 ∷ 2 ∷ 7 ∷ []) []) ∷
+    (returned 9 18 0 ((pos 455) ∷ (pos 9) ∷ (pos 0) ∷ (pos 9) ∷ (pos 0) ∷ (pos 9) ∷ (pos 455) ∷ (pos 9) ∷ (pos 455) ∷ (pos 9) ∷ (pos 0) ∷ (pos 9) ∷ (pos 0) ∷ (pos 9) ∷ (pos 455) ∷ (pos 9) ∷ (pos 455) ∷ (pos 9) ∷ (pos 0) ∷ (pos 9) ∷ (pos 0) ∷ (pos 9) ∷ (pos 455) ∷ (pos 9) ∷ (pos 455) ∷ (pos 9) ∷ (pos 0) ∷ (pos 9) ∷ (pos 0) ∷ (pos 9) ∷ (pos 455) ∷ (pos 9) ∷ (pos 455) ∷ (pos 9) ∷ (pos 0) ∷ (pos 9) ∷ (pos 7) ∷ (pos 7) ∷ []) (2 ∷ 2 ∷ 2 ∷ 2 ∷ 2 ∷ 2 ∷ 2 ∷ 2 ∷ 2 ∷ 7 ∷ []) []) ∷
     C (R (pos 0) (pos 0) (pos 7) (pos 7)) 256 256 ((minus 3) ∷ (pos 8) ∷ (minus 3) ∷ (pos 8) ∷ (pos 7) ∷ (pos 0) ∷ (minus 3) ∷ (minus 2) ∷ (minus 1) ∷ (pos 0) ∷ (pos 9) ∷ (minus 3) ∷ (pos 10) ∷ (pos 9) ∷ [])
     (returned 1 4 0 ((pos 0) ∷ (pos 7) ∷ (pos 0) ∷ (pos 5) ∷ (pos 7) ∷ (pos 0) ∷ (pos 7) ∷ (pos 7) ∷ (pos 7) ∷ (pos 7) ∷ []) (4 ∷ 7 ∷ []) ((pos 0) ∷ (pos 5) ∷ (pos 7) ∷ (pos 0) ∷ (pos 0) ∷ (pos 0) ∷ (pos 7) ∷ (pos 0) ∷ (pos 7) ∷ (pos 7) ∷ (pos 0) ∷ (pos 7) ∷ [])) ∷
     C (R (pos 0) (pos 0) (pos 8) (pos 4)) 256 8 ((pos 10) ∷ (pos 5) ∷ (pos 0) ∷ (pos 4) ∷ (pos 10) ∷ (minus 2) ∷ (pos 8) ∷ (pos 1) ∷ (pos 8) ∷ (pos 1) ∷ (pos 4) ∷ (pos 0) ∷ (pos 1) ∷ (pos 0) ∷ (pos 1) ∷ (pos 0) ∷ (pos 9) ∷ (pos 5) ∷ (pos 10) ∷ (minus 2) ∷ (pos 8) ∷ (pos 0) ∷ (pos 8) ∷ (pos 0) ∷ (pos 10) ∷ (pos 4) ∷ (pos 10) ∷ (minus 1) ∷ (pos 9) ∷ (pos 0) ∷ [])
@@ -115,7 +115,7 @@ table3 =
     C (R (pos 0) (pos 0) (pos 10) (pos 8)) 256 256 ((pos 10) ∷ (pos 7) ∷ (pos 12) ∷ (pos 0) ∷ (pos 0) ∷ (minus 1) ∷ (pos 0) ∷ (pos 1) ∷ (pos 9) ∷ (pos 8) ∷ (pos 10) ∷ (pos 8) ∷ (pos 5) ∷ (minus 1) ∷ (pos 9) ∷ (pos 1) ∷ [])
     (returned 2 9 1 ((pos 0) ∷ (pos 0) ∷ (pos 0) ∷ (pos 1) ∷ (pos 9) ∷ (pos 8) ∷ (pos 10) ∷ (pos 8) ∷ (pos 5) ∷ (pos 0) ∷ (pos 7) ∷ (pos 0) ∷ (pos 9) ∷ (pos 1) ∷ (pos 10) ∷ (pos 7) ∷ (pos 10) ∷ (pos 0) ∷ (pos 7) ∷ (pos 7) ∷ []) (5 ∷ 4 ∷ 7 ∷ []) ((pos 10) ∷ (pos 7) ∷ (pos 10) ∷ (pos 0) ∷ (pos 0) ∷ (pos 0) ∷ (pos 0) ∷ (pos 1) ∷ (pos 9) ∷ (pos 8) ∷ (pos 10) ∷ (pos 8) ∷ (pos 5) ∷ (pos 0) ∷ (pos 7) ∷ (pos 0) ∷ (pos 9) ∷ (pos 1) ∷ [])) ∷
     L (R (pos 112) (minus 174) (pos 340) (pos 245)) 256 ((pos 392) ∷ (pos 59) ∷ (pos 227) ∷ (pos 224) ∷ (pos 62) ∷ (pos 59) ∷ (pos 227) ∷ (minus 106) ∷ (pos 392) ∷ (pos 59) ∷ (pos 227) ∷ (pos 224) ∷ (pos 62) ∷ (pos 59) ∷ (pos 227) ∷ (minus 106) ∷ (pos 392) ∷ (pos 59) ∷ (pos 227) ∷ (pos 224) ∷ (pos 62) ∷ (pos 59) ∷ (pos 227) ∷ (minus 106) ∷ [])
-    (returned 6 17 0 ((pos 340) ∷ (pos 111) ∷ (pos 227) ∷ (pos 224) ∷ (pos 112) ∷ (pos 109) ∷ (pos 112) ∷ (pos 9) ∷ (pos 227) ∷ (minus 106) ∷ (pos 340) ∷ (pos 7) ∷ (pos 340) ∷ (pos 111) ∷ (pos 227) ∷ (pos 224) ∷ (pos 112) ∷ (pos 109) ∷ (pos 112) ∷ (pos 9) ∷ (pos 227) ∷ (minus 106) ∷ (pos 340) ∷ (pos 7) ∷ (pos 340) ∷ (pos 111) ∷ (pos 227) ∷ (pos 224) ∷ (pos 112) ∷ (pos 109) ∷ (pos 112) ∷ (pos 9) ∷ (pos 227) ∷ (minus 106) ∷ (pos 7) ∷ (pos 7) ∷ []) (3 ∷ 3 ∷ 3 ∷ 3 ∷ 3 ∷ 2 ∷ 7 ∷ []) []) ∷
+    (returned 6 17 0 ((pos 340) ∷ (pos 111) ∷ (pos 227) ∷ (pos 224) ∷ (pos 112) ∷ (pos 109) ∷ (pos 111) ∷ (pos 9) ∷ (pos 227) ∷ (minus 106) ∷ (pos 340) ∷ (pos 7) ∷ (pos 340) ∷ (pos 111) ∷ (pos 227) ∷ (pos 224) ∷ (pos 112) ∷ (pos 109) ∷ (pos 111) ∷ (pos 9) ∷ (pos 227) ∷ (minus 106) ∷ (pos 340) ∷ (pos 7) ∷ (pos 340) ∷ (pos 111) ∷ (pos 227) ∷ (pos 224) ∷ (pos 112) ∷ (pos 109) ∷ (pos 111) ∷ (pos 9) ∷ (pos 227) ∷ (minus 106) ∷ (pos 7) ∷ (pos 7) ∷ []) (3 ∷ 3 ∷ 3 ∷ 3 ∷ 3 ∷ 2 ∷ 7 ∷ []) []) ∷
     C (R (pos 0) (pos 0) (pos 9) (pos 5)) 256 256 ((pos 11) ∷ (pos 6) ∷ (pos 0) ∷ (pos 5) ∷ (pos 0) ∷ (pos 5) ∷ (minus 3) ∷ (minus 3) ∷ (pos 1) ∷ (minus 1) ∷ (pos 10) ∷ (pos 0) ∷ (pos 9) ∷ (pos 0) ∷ [])
     (returned 1 4 0 ((pos 9) ∷ (pos 5) ∷ (pos 0) ∷ (pos 5) ∷ (pos 0) ∷ (pos 0) ∷ (pos 9) ∷ (pos 0) ∷ (pos 7) ∷ (pos 7) ∷ []) (4 ∷ 7 ∷ []) ((pos 0) ∷ (pos 5) ∷ (pos 0) ∷ (pos 0) ∷ (pos 9) ∷ (pos 0) ∷ (pos 9) ∷ (pos 5) ∷ [])) ∷
     C (R (pos 0) (pos 0) (pos 60) (pos 60)) 10 256 ((pos 0) ∷ (pos 6) ∷ (minus 2) ∷ (pos 0) ∷ (minus 2) ∷ (minus 3) ∷ (minus 4) ∷ (pos 0) ∷ (minus 2) ∷ (minus 4) ∷ (pos 1) ∷ (pos 5) ∷ (pos 45) ∷ (minus 6) ∷ (pos 43) ∷ (minus 5) ∷ (pos 42) ∷ (pos 2) ∷ (pos 49) ∷ (pos 0) ∷ (pos 19) ∷ (pos 3) ∷ (pos 1) ∷ (pos 0) ∷ (pos 5) ∷ (pos 0) ∷ (pos 40) ∷ (pos 5) ∷ [])

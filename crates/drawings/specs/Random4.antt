@@ -33,7 +33,7 @@ table1 =
     U (R (pos 160) (pos 493) (pos 379) (pos 898)) 256 256 ((pos 226) ∷ (pos 669) ∷ (pos 226) ∷ (pos 680) ∷ (pos 204) ∷ (pos 680) ∷ (pos 204) ∷ (pos 658) ∷ (pos 237) ∷ (pos 658) ∷ (pos 237) ∷ (pos 691) ∷ (pos 193) ∷ (pos 691) ∷ (pos 193) ∷ (pos 647) ∷ (pos 248) ∷ (pos 647) ∷ (pos 248) ∷ (pos 702) ∷ (pos 182) ∷ (pos 702) ∷ (pos 182) ∷ (pos 636) ∷ (pos 259) ∷ (pos 636) ∷ (pos 259) ∷ (pos 713) ∷ [])
     (returned 1 14 0 ((pos 226) ∷ (pos 669) ∷ (pos 226) ∷ (pos 680) ∷ (pos 204) ∷ (pos 680) ∷ (pos 204) ∷ (pos 658) ∷ (pos 237) ∷ (pos 658) ∷ (pos 237) ∷ (pos 691) ∷ (pos 193) ∷ (pos 691) ∷ (pos 193) ∷ (pos 647) ∷ (pos 248) ∷ (pos 647) ∷ (pos 248) ∷ (pos 702) ∷ (pos 182) ∷ (pos 702) ∷ (pos 182) ∷ (pos 636) ∷ (pos 259) ∷ (pos 636) ∷ (pos 259) ∷ (pos 713) ∷ (pos 7) ∷ (pos 7) ∷ []) (14 ∷ 7 ∷ []) []) ∷
     L (R (pos 306) (minus 114) (pos 975) (pos 331)) 256 ((minus 653) ∷ (pos 330) ∷ (minus 836) ∷ (pos 976) ∷ (minus 565) ∷ (minus 48) ∷ (pos 166) ∷ (minus 412) ∷ (pos 112) ∷ (minus 864) ∷ (pos 666) ∷ (pos 202) ∷ (minus 381) ∷ (pos 681) ∷ (pos 706) ∷ (minus 646) ∷ (minus 173) ∷ (pos 976) ∷ (minus 221) ∷ (pos 872) ∷ (pos 793) ∷ (pos 465) ∷ (minus 546) ∷ (pos 432) ∷ (pos 678) ∷ (minus 1) ∷ [])
-    (returned 3 7 0 ((pos 501) ∷ (minus 114) ∷ (pos 666) ∷ (pos 202) ∷ (pos 384) ∷ (pos 331) ∷ (pos 417) ∷ (minus 114) ∷ (pos 306) ∷ (pos 92) ∷ (pos 306) ∷ (pos 130) ∷ (pos 678) ∷ (minus 1) ∷ (pos 7) ∷ (pos 7) ∷ []) (3 ∷ 2 ∷ 2 ∷ 7 ∷ []) []) ∷
+    (returned 3 7 0 ((pos 501) ∷ (minus 114) ∷ (pos 666) ∷ (pos 202) ∷ (pos 384) ∷ (pos 331) ∷ (pos 417) ∷ (minus 114) ∷ (pos 305) ∷ (pos 92) ∷ (pos 306) ∷ (pos 130) ∷ (pos 678) ∷ (minus 1) ∷ (pos 7) ∷ (pos 7) ∷ []) (3 ∷ 2 ∷ 2 ∷ 7 ∷ []) []) ∷
     C (R (pos 0) (pos 0) (pos 4) (pos 4)) 256 256 ((pos 0) ∷ (pos 2) ∷ (pos 2) ∷ (pos 4) ∷ (pos 4) ∷ (pos 6) ∷ (pos 2) ∷ (pos 4) ∷ (pos 4) ∷ (pos 4) ∷ (pos 6) ∷ (minus 2) ∷ (pos 6) ∷ (pos 4) ∷ (pos 4) ∷ (pos 2) ∷ [])
     (returned 1 4 0 ((pos 4) ∷ (pos 4) ∷ (pos 4) ∷ (pos 2) ∷ (pos 0) ∷ (pos 2) ∷ (pos 2) ∷ (pos 4) ∷ (pos 7) ∷ (pos 7) ∷ []) (4 ∷ 7 ∷ []) ((pos 4) ∷ (pos 2) ∷ (pos 0) ∷ (pos 2) ∷ (pos 2) ∷ (pos 4) ∷ (pos 4) ∷ (pos 4) ∷ [])) ∷
     C (R (pos 0) (pos 0) (pos 3) (pos 5)) 256 256 ((pos 0) ∷ (pos 7) ∷ (pos 2) ∷ (pos 0) ∷ (minus 3) ∷ (pos 0) ∷ (pos 4) ∷ (minus 2) ∷ (pos 3) ∷ (pos 7) ∷ [])
@@ -103,7 +103,7 @@ table3 =
     L (R (pos 0) (pos 0) (pos 4) (pos 2)) 15 ((pos 0) ∷ (pos 1) ∷ (pos 0) ∷ (minus 1) ∷ (pos 4) ∷ (pos 4) ∷ (pos 0) ∷ (pos 3) ∷ (pos 0) ∷ (pos 3) ∷ (pos 4) ∷ (pos 0) ∷ (pos 1) ∷ (pos 1) ∷ (pos 1) ∷ (pos 1) ∷ (pos 3) ∷ (pos 0) ∷ (minus 1) ∷ (minus 2) ∷ (minus 1) ∷ (minus 2) ∷ (pos 5) ∷ (pos 1) ∷ (pos 5) ∷ (pos 1) ∷ (minus 2) ∷ (pos 0) ∷ (pos 0) ∷ (pos 0) ∷ (pos 6) ∷ (pos 1) ∷ (pos 6) ∷ (pos 1) ∷ (pos 0) ∷ (pos 1) ∷ [])
     (returned 7 15 0 ((pos 0) ∷ (pos 0) ∷ (pos 2) ∷ (pos 2) ∷ (pos 1) ∷ (pos 2) ∷ (pos 4) ∷ (pos 0) ∷ (pos 4) ∷ (pos 0) ∷ (pos 1) ∷ (pos 1) ∷ (pos 3) ∷ (pos 0) ∷ (pos 3) ∷ (pos 0) ∷ (pos 4) ∷ (pos 0) ∷ (pos 4) ∷ (pos 0) ∷ (pos 0) ∷ (pos 0) ∷ (pos 0) ∷ (pos 0) ∷ (pos 4) ∷ (pos 0) ∷ (pos 4) ∷ (pos 1) ∷ (pos 0) ∷ (pos 1) ∷ (pos 7) ∷ (pos 7) ∷ []) (2 ∷ 2 ∷ 3 ∷ 2 ∷ 2 ∷ 2 ∷ 2 ∷ 7 ∷ []) []) ∷
     C (R (pos 192) (pos 448) (pos 381) (pos 1021)) 7 256 ((minus 488) ∷ (pos 318) ∷ (minus 118) ∷ (pos 312) ∷ (pos 751) ∷ (minus 726) ∷ (minus 906) ∷ (pos 99) ∷ (pos 355) ∷ (pos 820) ∷ (minus 579) ∷ (pos 799) ∷ (minus 134) ∷ (pos 715) ∷ (pos 469) ∷ (minus 148) ∷ (pos 998) ∷ (minus 114) ∷ (pos 896) ∷ (pos 426) ∷ [])
-    (refusal 8 ((pos 192) ∷ (pos 726) ∷ (pos 355) ∷ (pos 820) ∷ (pos 192) ∷ (pos 816) ∷ (pos 192) ∷ (pos 448) ∷ (pos 381) ∷ (pos 448) ∷ (pos 192) ∷ (pos 448) ∷ (pos 381) ∷ (pos 448) ∷ (pos 192) ∷ (pos 448) ∷ [])) ∷
+    (refusal 8 ((pos 191) ∷ (pos 726) ∷ (pos 355) ∷ (pos 820) ∷ (pos 192) ∷ (pos 816) ∷ (pos 192) ∷ (pos 448) ∷ (pos 381) ∷ (pos 448) ∷ (pos 192) ∷ (pos 448) ∷ (pos 381) ∷ (pos 448) ∷ (pos 192) ∷ (pos 448) ∷ [])) ∷
     U (R (pos 30) (minus 369) (pos 720) (minus 23)) 256 256 ((pos 657) ∷ (pos 15) ∷ (pos 969) ∷ (pos 587) ∷ [])
     (returned 0 0 0 ((pos 7) ∷ (pos 7) ∷ []) (7 ∷ []) []) ∷
     U (R (pos 22) (pos 55) (pos 412) (pos 532)) 256 256 ((pos 540) ∷ (minus 978) ∷ (pos 540) ∷ (minus 978) ∷ (pos 591) ∷ (minus 859) ∷ (pos 576) ∷ (minus 705) ∷ (pos 480) ∷ (minus 551) ∷ (pos 303) ∷ (minus 439) ∷ (pos 303) ∷ (minus 439) ∷ (pos 68) ∷ (minus 411) ∷ (minus 184) ∷ (minus 491) ∷ (minus 404) ∷ (minus 685) ∷ (minus 404) ∷ (minus 685) ∷ (minus 539) ∷ (minus 978) ∷ (minus 539) ∷ (minus 978) ∷ (minus 543) ∷ (minus 1329) ∷ (minus 543) ∷ (minus 1329) ∷ (minus 397) ∷ (minus 1678) ∷ (minus 397) ∷ (minus 1678) ∷ (minus 107) ∷ (minus 1964) ∷ (pos 303) ∷ (minus 2122) ∷ (pos 770) ∷ (minus 2104) ∷ (pos 540) ∷ (minus 978) ∷ [])

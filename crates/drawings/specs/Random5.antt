@@ -29,7 +29,7 @@ table1 =
     C (R (minus 33554432) (pos 0) (minus 6179177) (pos 6940723)) 256 256 ((pos 33554431) ∷ (pos 6679341) ∷ (minus 22960552) ∷ (pos 33554432) ∷ (minus 6179177) ∷ (pos 6940725) ∷ [])
     (returned 0 0 0 ((pos 7) ∷ (pos 7) ∷ []) (7 ∷ []) []) ∷
     C (R (minus 33554432) (minus 20000001) (pos 18966378) (pos 4265498)) 8 256 ((minus 33554432) ∷ (minus 20000002) ∷ (minus 33554431) ∷ (pos 28031702) ∷ (minus 8454072) ∷ (pos 10146193) ∷ (minus 31883650) ∷ (pos 27429181) ∷ (minus 7294027) ∷ (minus 20000002) ∷ (pos 31318526) ∷ (pos 33554432) ∷ (minus 13487130) ∷ (pos 23013802) ∷ (minus 14693194) ∷ (minus 27006114) ∷ [])
-    (returned 1 8 4 ((minus 14524264) ∷ (minus 20000001) ∷ (minus 33554431) ∷ (minus 20000001) ∷ (minus 33554431) ∷ (pos 4265498) ∷ (minus 19874456) ∷ (pos 4265498) ∷ (minus 7294027) ∷ (minus 20000001) ∷ (minus 7294026) ∷ (minus 20000001) ∷ (pos 10201310) ∷ (pos 4265498) ∷ (minus 13939183) ∷ (pos 4265498) ∷ (pos 7) ∷ (pos 7) ∷ []) (8 ∷ 7 ∷ []) ((minus 33554431) ∷ (minus 20000001) ∷ (minus 33554431) ∷ (pos 4265498) ∷ (minus 19874456) ∷ (pos 4265498) ∷ (minus 7294027) ∷ (minus 20000001) ∷ (minus 7294026) ∷ (minus 20000001) ∷ (pos 10201310) ∷ (pos 4265498) ∷ (minus 13939183) ∷ (pos 4265498) ∷ (minus 14524264) ∷ (minus 20000001) ∷ [])) ∷
+    (returned 1 8 2 ((minus 14524264) ∷ (minus 20000001) ∷ (minus 33554431) ∷ (minus 20000001) ∷ (minus 33554431) ∷ (pos 4265498) ∷ (minus 19874456) ∷ (pos 4265498) ∷ (minus 7294027) ∷ (minus 20000001) ∷ (minus 7294026) ∷ (minus 20000001) ∷ (pos 10201310) ∷ (pos 4265497) ∷ (minus 13939183) ∷ (pos 4265498) ∷ (pos 7) ∷ (pos 7) ∷ []) (8 ∷ 7 ∷ []) ((minus 33554431) ∷ (minus 20000001) ∷ (minus 33554431) ∷ (pos 4265498) ∷ (minus 19874456) ∷ (pos 4265498) ∷ (minus 7294027) ∷ (minus 20000001) ∷ (minus 7294026) ∷ (minus 20000001) ∷ (pos 10201310) ∷ (pos 4265497) ∷ (minus 13939183) ∷ (pos 4265498) ∷ (minus 14524264) ∷ (minus 20000001) ∷ [])) ∷
     L (R (pos 4872000) (pos 2556000) (pos 9696000) (pos 5940000)) 256 ((pos 720000) ∷ (pos 2136000) ∷ (minus 20277230) ∷ (pos 11714121) ∷ (minus 13802136) ∷ (minus 10429113) ∷ (minus 1311361) ∷ (pos 8996127) ∷ (minus 24151672) ∷ (pos 5731327) ∷ (minus 6693723) ∷ (minus 9401135) ∷ (minus 6693723) ∷ (pos 13673135) ∷ (minus 24151672) ∷ (minus 1459327) ∷ (minus 1311360) ∷ (minus 4724127) ∷ (minus 13802136) ∷ (pos 14701113) ∷ (minus 20277230) ∷ (minus 7442121) ∷ [])
     (returned 0 0 0 ((pos 7) ∷ (pos 7) ∷ []) (7 ∷ []) []) ∷
     C (R (pos 185) (pos 287) (pos 729) (pos 422)) 256 256 ((minus 92) ∷ (minus 58) ∷ (minus 92) ∷ (pos 852) ∷ (pos 818) ∷ (pos 852) ∷ (pos 818) ∷ (pos 397) ∷ [])
@@ -43,7 +43,7 @@ table1 =
     C (R (pos 0) (pos 0) (pos 6) (pos 11)) 256 256 ((pos 5) ∷ (pos 0) ∷ (pos 5) ∷ (pos 0) ∷ (pos 6) ∷ (pos 11) ∷ (minus 2) ∷ (pos 11) ∷ (pos 6) ∷ (pos 11) ∷ [])
     (returned 0 0 0 ((pos 7) ∷ (pos 7) ∷ []) (7 ∷ []) ((pos 6) ∷ (pos 11) ∷ (pos 5) ∷ (pos 0) ∷ (pos 6) ∷ (pos 11) ∷ [])) ∷
     C (R (minus 20000001) (minus 33554432) (minus 6679423) (pos 26901924)) 256 256 ((pos 19427903) ∷ (minus 22887062) ∷ (pos 33554432) ∷ (pos 33554432) ∷ (pos 19000945) ∷ (pos 21342186) ∷ (pos 33554432) ∷ (pos 19785590) ∷ (pos 12504700) ∷ (pos 17494374) ∷ (minus 8150620) ∷ (minus 26869478) ∷ (minus 20896553) ∷ (minus 6341748) ∷ (pos 2457223) ∷ (pos 9426609) ∷ (minus 33554431) ∷ (pos 32936349) ∷ [])
-    (returned 2 9 5 ((minus 6679423) ∷ (minus 23709615) ∷ (minus 8150620) ∷ (minus 26869478) ∷ (minus 20000001) ∷ (minus 7785673) ∷ (minus 20000001) ∷ (minus 5736400) ∷ (minus 6679423) ∷ (pos 3257589) ∷ (minus 6679423) ∷ (pos 15391349) ∷ (minus 20000001) ∷ (pos 24087515) ∷ (minus 20000001) ∷ (pos 18655088) ∷ (minus 6679423) ∷ (pos 4620219) ∷ (pos 7) ∷ (pos 7) ∷ []) (5 ∷ 4 ∷ 7 ∷ []) ((minus 20000001) ∷ (pos 18655088) ∷ (minus 6679423) ∷ (pos 4620219) ∷ (minus 6679423) ∷ (minus 23709615) ∷ (minus 8150620) ∷ (minus 26869478) ∷ (minus 20000001) ∷ (minus 7785673) ∷ (minus 20000001) ∷ (minus 5736400) ∷ (minus 6679423) ∷ (pos 3257589) ∷ (minus 6679423) ∷ (pos 15391349) ∷ (minus 20000001) ∷ (pos 24087515) ∷ [])) ∷
+    (returned 1 9 2 ((minus 20000001) ∷ (pos 24087515) ∷ (minus 20000001) ∷ (pos 18655088) ∷ (minus 6679423) ∷ (pos 4620219) ∷ (minus 6679423) ∷ (minus 23709615) ∷ (minus 8150620) ∷ (minus 26869478) ∷ (minus 20000001) ∷ (minus 7785673) ∷ (minus 20000001) ∷ (minus 5736400) ∷ (minus 6679423) ∷ (pos 3257589) ∷ (minus 6679422) ∷ (pos 15391349) ∷ (pos 7) ∷ (pos 7) ∷ []) (9 ∷ 7 ∷ []) ((minus 20000001) ∷ (pos 18655088) ∷ (minus 6679423) ∷ (pos 4620219) ∷ (minus 6679423) ∷ (minus 23709615) ∷ (minus 8150620) ∷ (minus 26869478) ∷ (minus 20000001) ∷ (minus 7785673) ∷ (minus 20000001) ∷ (minus 5736400) ∷ (minus 6679423) ∷ (pos 3257589) ∷ (minus 6679422) ∷ (pos 15391349) ∷ (minus 20000001) ∷ (pos 24087515) ∷ [])) ∷
     L (R (minus 167) (minus 492) (pos 239) (pos 90)) 256 ((pos 108) ∷ (pos 30) ∷ (pos 158) ∷ (pos 163) ∷ (pos 136) ∷ (pos 330) ∷ (pos 28) ∷ (pos 494) ∷ (minus 164) ∷ (pos 610) ∷ (minus 416) ∷ (pos 636) ∷ (minus 682) ∷ (pos 548) ∷ (minus 912) ∷ (pos 341) ∷ (minus 1052) ∷ (pos 30) ∷ (minus 1054) ∷ (minus 340) ∷ (minus 1054) ∷ (minus 340) ∷ (minus 899) ∷ (minus 705) ∷ (minus 593) ∷ (minus 1002) ∷ (minus 593) ∷ (minus 1002) ∷ [])
     (returned 1 2 0 ((pos 108) ∷ (pos 30) ∷ (pos 130) ∷ (pos 90) ∷ (pos 7) ∷ (pos 7) ∷ []) (2 ∷ 7 ∷ []) []) ∷
     C (R (minus 152) (pos 192) (pos 412) (pos 380)) 256 256 ((pos 473) ∷ (pos 1279) ∷ (pos 525) ∷ (pos 1116) ∷ (pos 551) ∷ (pos 955) ∷ (pos 553) ∷ (pos 800) ∷ (pos 533) ∷ (pos 654) ∷ (pos 493) ∷ (pos 520) ∷ (pos 433) ∷ (pos 400) ∷ (pos 358) ∷ (pos 296) ∷ (pos 269) ∷ (pos 210) ∷ (pos 168) ∷ (pos 144) ∷ (pos 60) ∷ (pos 100) ∷ (minus 51) ∷ (pos 77) ∷ [])

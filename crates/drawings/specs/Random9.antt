@@ -57,7 +57,7 @@ drawings1 = refl
 abbrev table2 : List Case
 table2 =
     C (R (pos 25) (minus 293) (pos 374) (minus 88)) 10 256 ((pos 171) ∷ (pos 878) ∷ (pos 719) ∷ (pos 939) ∷ (pos 860) ∷ (minus 805) ∷ (minus 559) ∷ (pos 758) ∷ (pos 416) ∷ (minus 434) ∷ (pos 572) ∷ (minus 703) ∷ (pos 723) ∷ (pos 180) ∷ (minus 592) ∷ (pos 391) ∷ (pos 258) ∷ (pos 642) ∷ (minus 22) ∷ (minus 291) ∷ (minus 399) ∷ (pos 437) ∷ [])
-    (refusal 8 ((pos 374) ∷ (minus 269) ∷ (pos 209) ∷ (minus 88) ∷ (pos 132) ∷ (minus 88) ∷ (pos 300) ∷ (minus 293) ∷ (pos 374) ∷ (minus 293) ∷ (pos 374) ∷ (minus 88) ∷ (pos 38) ∷ (minus 88) ∷ (pos 25) ∷ (minus 134) ∷ (pos 25) ∷ (minus 88) ∷ (pos 374) ∷ (minus 88) ∷ (pos 374) ∷ (minus 293) ∷ [])) ∷
+    (refusal 8 ((pos 374) ∷ (minus 269) ∷ (pos 209) ∷ (minus 88) ∷ (pos 132) ∷ (minus 87) ∷ (pos 300) ∷ (minus 293) ∷ (pos 374) ∷ (minus 293) ∷ (pos 374) ∷ (minus 88) ∷ (pos 38) ∷ (minus 88) ∷ (pos 24) ∷ (minus 134) ∷ (pos 25) ∷ (minus 88) ∷ (pos 374) ∷ (minus 88) ∷ (pos 374) ∷ (minus 293) ∷ [])) ∷
     C (R (pos 0) (pos 0) (pos 5) (pos 4)) 256 0 ((minus 3) ∷ (pos 0) ∷ (pos 5) ∷ (minus 3) ∷ (pos 7) ∷ (pos 4) ∷ (minus 2) ∷ (pos 4) ∷ [])
     (returned 1 4 0 ((pos 5) ∷ (pos 0) ∷ (pos 5) ∷ (pos 4) ∷ (pos 0) ∷ (pos 4) ∷ (pos 0) ∷ (pos 0) ∷ (pos 7) ∷ (pos 7) ∷ []) (4 ∷ 7 ∷ []) ((pos 5) ∷ (pos 4) ∷ (pos 0) ∷ (pos 4) ∷ (pos 0) ∷ (pos 0) ∷ (pos 5) ∷ (pos 0) ∷ [])) ∷
     C (R (minus 441) (pos 343) (pos 149) (pos 838)) 256 0 ((minus 291) ∷ (pos 303) ∷ (minus 291) ∷ (pos 547) ∷ (minus 779) ∷ (pos 547) ∷ (minus 779) ∷ (pos 59) ∷ (minus 47) ∷ (pos 59) ∷ (minus 47) ∷ (pos 791) ∷ (minus 1023) ∷ (pos 791) ∷ [])

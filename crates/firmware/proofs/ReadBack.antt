@@ -1,5 +1,5 @@
--- What is read from the bytes of a result are the definition's coordinates: each is within the coordinate limit, so that
--- 32 signed bits hold it. Assumes nothing.
+-- What is read from the bytes of a result are the definition's coordinates: each is at most one unit outside the coordinate limit, so
+-- that 32 signed bits hold it. Assumes nothing.
 use mathlib.Core.Path.{◌≡◌, refl, sym, ◌∙◌, ap}
 use mathlib.Core.List.{List, [], ◌∷◌, ◌++◌, map, Memᴰ}
 use Prim.Native.Nat.{ℕ, suc, ◌+◌, ◌-◌, ◌*◌, ◌/◌, ◌%◌, ◌<◌, ◌≤◌}
@@ -10,7 +10,6 @@ use lib.IntN.{ℤ, pos, negsuc, nat_abs}
 use borrow.Author.Tests.{lt-ltb, le-ltb}
 use Rattle.integers.specs.Order.{zint, sub_pn}
 use Rattle.plane.specs.declared.point.Point64.{Point64}
-use Rattle.plane.specs.Limit.{Limited}
 use Rattle.plane.specs.Points.{coordinates_of}
 use Rattle.reference.specs.Entry.{joined}
 use Rattle.reference.specs.Exported.{signed, bits, words, read_words}
@@ -33,11 +32,11 @@ quotients n q r s h e f g =
 back_bytes : (n : ℕ) → n < 4294967296 → n % 256 + 256 * (n / 256 % 256) + 65536 * (n / 65536 % 256) + 16777216 * (n / 16777216 % 256) ≡ n
 back_bytes n h = quotients n (n / 256) (n / 65536) (n / 16777216) h refl (sym (div-div-eq-div-mul n 256 256)) (sym (div-div-eq-div-mul n 65536 256))
 
-bits_fit : (z : ℤ) → nat_abs z ≤ 33554432 → bits z < 4294967296
+bits_fit : (z : ℤ) → nat_abs z ≤ 33554433 → bits z < 4294967296
 bits_fit (pos n) h = omega arith
 bits_fit (negsuc n) h = omega arith
 
-signed_bits : (z : ℤ) → nat_abs z ≤ 33554432 → signed (bits z) ≡ z
+signed_bits : (z : ℤ) → nat_abs z ≤ 33554433 → signed (bits z) ≡ z
 signed_bits (pos n) h = rw (lt-ltb n 2147483648 (omega arith)) refl
 signed_bits (negsuc n) h = rw (le-ltb (4294967296 - suc n) 2147483648 (omega arith)) (omega (zint, sub_pn (pos (4294967296 - suc n)) (pos 4294967296)))
 
@@ -55,20 +54,20 @@ lengths_read (q ∷ paths) h =
 -- ---- a list of coordinates
 data Small : List ℤ → Type 0 where
   none : Small []
-  more : {z : ℤ} {cs : List ℤ} → nat_abs z ≤ 33554432 → Small cs → Small (z ∷ cs)
+  more : {z : ℤ} {cs : List ℤ} → nat_abs z ≤ 33554433 → Small cs → Small (z ∷ cs)
 
 read_back : {cs : List ℤ} → Small cs → read_words (words (map bits cs)) ≡ cs
 read_back none = refl
 read_back (more {z} {cs} h s) = let e = ap signed (back_bytes (bits z) (bits_fit z h)) ∙ signed_bits z h in λ i. e i ∷ read_back s i
 
 -- ---- the coordinates of returned points
-limited_path : (q : List Point64) → ((p : Point64) → Memᴰ p q → Limited p) → (rest : List Point64) → Small (coordinates_of rest) → Small (coordinates_of (q ++ rest))
-limited_path [] limited rest s = s
-limited_path (p ∷ q) limited rest s = let m = limited p (Memᴰ.head refl) in more m.across (more m.down (limited_path q (λ p' i. limited p' (Memᴰ.tail i)) rest s))
+near_path : (q : List Point64) → ((p : Point64) → Memᴰ p q → (nat_abs p.x ≤ 33554433) × (nat_abs p.y ≤ 33554433)) → (rest : List Point64) → Small (coordinates_of rest) → Small (coordinates_of (q ++ rest))
+near_path [] near rest s = s
+near_path (p ∷ q) near rest s = let m = near p (Memᴰ.head refl) in more m.0 (more m.1 (near_path q (λ p' i. near p' (Memᴰ.tail i)) rest s))
 
-limited_joined : (paths : List (List Point64)) → ((q : List Point64) → Memᴰ q paths → (p : Point64) → Memᴰ p q → Limited p) → Small (coordinates_of (joined paths))
-limited_joined [] limited = none
-limited_joined (q ∷ paths) limited = limited_path q (limited q (Memᴰ.head refl)) (joined paths) (limited_joined paths (λ q' i. limited q' (Memᴰ.tail i)))
+near_joined : (paths : List (List Point64)) → ((q : List Point64) → Memᴰ q paths → (p : Point64) → Memᴰ p q → (nat_abs p.x ≤ 33554433) × (nat_abs p.y ≤ 33554433)) → Small (coordinates_of (joined paths))
+near_joined [] near = none
+near_joined (q ∷ paths) near = near_path q (near q (Memᴰ.head refl)) (joined paths) (near_joined paths (λ q' i. near q' (Memᴰ.tail i)))
 
 pub reads_back : ReadsBack
-reads_back closed R path d e = read_back (limited_joined d.0 (always_bounded closed R path d e).limited)
+reads_back closed R path d e = read_back (near_joined d.0 (always_bounded closed R path d e).near)

@@ -1,13 +1,12 @@
 -- `get_segment_intersection` and `get_intersection` of rectclip.rs: the crossing of a segment with an edge, and the search over the edges.
--- Behind the float crossing stand the two steps of document 02, 2/13, which the Rust does not have.
-use Rattle.std.specs.Prelude.{◌||◌, ℕ, ℤ, pos}
+use Rattle.std.specs.Prelude.{◌||◌, ℕ, pos}
 use Rattle.std.specs.Bool.{beq}
 use Rattle.std.specs.Int.Signed.{lt_z}
 use Rattle.integers.specs.Tests.{eq_z}
 use Rattle.plane.specs.Basics.{if◌then◌else◌}
 use Rattle.plane.specs.Locations.{lower, upper}
-use Rattle.plane.specs.Points.{point, same_point, pt_at}
-use Rattle.plane.specs.Rectangle.{max, min, as_path, beyond}
+use Rattle.plane.specs.Points.{same_point, pt_at}
+use Rattle.plane.specs.Rectangle.{as_path, beyond}
 use Rattle.plane.specs.Segment.{intersection}
 use Rattle.plane.specs.Signs.{cross_product_sign, is_horizontal}
 use Rattle.plane.specs.declared.crossing.Meeting.{Meeting}
@@ -19,22 +18,6 @@ use Rattle.plane.specs.declared.location.Location.{Location}
 use Rattle.plane.specs.declared.location.Location.TheVariants.{Left, Top, Right, Bottom, Inside}
 use Rattle.plane.specs.declared.point.Point64.{Point64}
 use Rattle.plane.specs.declared.rect.Rect64.{Rect64}
-
--- 2/13: 'The coordinate across the edge is now set to the edge's, and the one along it is held between the edge's ends.'
--- z, held between a and b, which may come in either order
-abbrev pub held_between : ℤ → ℤ → ℤ → ℤ
-held_between a b z = max (min a b) (min z (max a b))
-
--- the two steps, on the edge from c to d, which is parallel to an axis
-abbrev pub put_on_edge : Point64 → Point64 → Point64 → Point64
-put_on_edge c d p =
-    if eq_z c.x d.x then point c.x (held_between c.y d.y p.y)
-    else point (held_between c.x d.x p.x) c.y
-
--- on what `get_segment_intersect_pt` answers
-abbrev pub held_to_edge : Point64 → Point64 → Meeting → Meeting
-held_to_edge c d Apart = Apart
-held_to_edge c d (Met p) = Met (put_on_edge c d p)
 
 -- `get_segment_intersection` of the segment from p1 to p2 with the edge from p3 to p4
 -- p, which is on the line through a and b, is a crossing where it lies between them
@@ -54,7 +37,7 @@ get_segment_intersection p1 p2 p3 p4 =
     let known2 = at_end p2 p3 p4 in
     let known3 = at_end p3 p1 p2 in
     let known4 = at_end p4 p1 p2 in
-    let found = held_to_edge p3 p4 (intersection p1 p2 p3 p4) in
+    let found = intersection p1 p2 p3 p4 in
     if eq_z res1 (pos 0) then (if eq_z res2 (pos 0) then Apart else known1)
     else if eq_z res2 (pos 0) then known2
     else if beq (lt_z (pos 0) res1) (lt_z (pos 0) res2) then Apart

@@ -8,13 +8,13 @@ use native.Mathlib.Omega.{arith}
 use lib.ListN.{length, length-append}
 use lib.IntN.{ℤ, pos}
 use Rattle.plane.specs.Basics.{if◌then◌else◌, Try, refuse, ok}
-use Rattle.plane.specs.Limit.{rect_in_limit, Limited}
+use Rattle.plane.specs.Limit.{rect_in_limit}
 use Rattle.plane.specs.declared.point.Point64.{Point64}
 use Rattle.plane.specs.declared.rect.Rect64.{Rect64}
 use Rattle.reference.specs.Entry.{Drawing, joined}
 use Rattle.text.specs.Reading.{unreadable, rectangle, path}
 use Rattle.text.specs.Printing.{refusal_line, rectangle_line, path_line, path_lines}
-use Rattle.text.proofs.Widths.{line_width, path_width}
+use Rattle.text.proofs.Widths.{Near, line_width, path_width}
 use Rattle.handheld.specs.Drawn.{clipped}
 use Rattle.handheld.proofs.Bounded.{always_bounded}
 use Rattle.program.specs.Answered.{path_answer, FirstFits, AnswerFits}
@@ -36,14 +36,14 @@ first_fits (rectangle r) = go (rect_in_limit r)
     go false = omega (arith, refusal_width (pos 1) 6)
 
 -- ---- the lines of a drawing
-lines_width : (closed : Bool) (line : ℤ) (paths : List (List Point64)) → ((q : List Point64) → Memᴰ q paths → (p : Point64) → Memᴰ p q → Limited p)
+lines_width : (closed : Bool) (line : ℤ) (paths : List (List Point64)) → ((q : List Point64) → Memᴰ q paths → (p : Point64) → Memᴰ p q → Near p)
     → length (path_lines closed line paths) ≤ 26 * length paths + 21 * length (joined paths)
-lines_width closed line [] limited = omega arith
-lines_width closed line (q ∷ paths) limited =
-    omega (arith, length-append (path_line closed line q) (path_lines closed line paths), length-append q (joined paths), path_width closed line q (limited q (Memᴰ.head refl)), lines_width closed line paths (λ q' i. limited q' (Memᴰ.tail i)))
+lines_width closed line [] near = omega arith
+lines_width closed line (q ∷ paths) near =
+    omega (arith, length-append (path_line closed line q) (path_lines closed line paths), length-append q (joined paths), path_width closed line q (near q (Memᴰ.head refl)), lines_width closed line paths (λ q' i. near q' (Memᴰ.tail i)))
 
 pub drawing_fits : (closed : Bool) (line : ℤ) (R : Rect64) (zs : List ℤ) (d : Drawing) → clipped closed R zs ≡ ok d → length (path_lines closed line d.0) ≤ 12288
-drawing_fits closed line R zs d e = let m = always_bounded closed R zs d e in omega (arith, lines_width closed line d.0 m.limited, m.points, m.paths)
+drawing_fits closed line R zs d e = let m = always_bounded closed R zs d e in omega (arith, lines_width closed line d.0 m.near, m.points, m.paths)
 
 pub answer_fits : AnswerFits
 answer_fits R line unreadable = omega (arith, refusal_width line 12)

@@ -13,7 +13,6 @@ use lib.Seq.{take-suc-set, get_or-set_same, get_or-set_other, get_or-take, lengt
 use lib.IntN.{ℤ}
 use Rattle.plane.specs.declared.point.Point64.{Point64}
 use Rattle.plane.specs.Basics.{is_nil, push, Try, refuse, ok}
-use Rattle.plane.specs.Limit.{Limited}
 use Rattle.plane.specs.Points.{origin, same_point, pt_at, points_of}
 use Rattle.reference.specs.Walk.{Walk, no_room, add}
 use Rattle.entry.specs.declared.answer.Refusal.TheVariants.{StoreFull}
@@ -21,6 +20,7 @@ use Rattle.rectclip.specs.declared.walk.WalkState.{WalkState}
 use Rattle.rectclip.specs.declared.walk.Step.{Step}
 use Rattle.rectclip.specs.declared.walk.Step.TheVariants.{Walked, Refused}
 use Rattle.rectclip.specs.Memory.{at, put, put_point, column}
+use Rattle.rectclip.specs.Bounds.{Reached}
 use Rattle.rectclip.specs.Walking.{location, walk_of, Fits, Adds, Stepped}
 use Rattle.rectclip.proofs.Memory.{room_put, at_put, at_put_slot}
 use Rattle.rectclip.proofs.Columns.{column_pushed, column_other}
@@ -83,13 +83,13 @@ module _ {store : List ℤ} {work : List ℕ} {s : WalkState} (F : Fits store wo
   pub walk_at : (i : ℕ) → i < s.points → pt_at (walk_of store work s).points i ≡ pt_at (points_of store) i
   walk_at i h = ap (λ (l : List Point64). pt_at l i) walk_points ∙ get_or-take s.points (points_of store) i origin h
 
-  module _ (h : s.points < length store / 2) (pt : Point64) (limit : Limited pt) where
-    all_limited : (i : ℕ) → i < s.points + 1 → Limited (pt_at (points_of (put_point store s.points pt)) i)
-    all_limited i hi =
+  module _ (h : s.points < length store / 2) (pt : Point64) (near : Reached pt) where
+    close_behind : (i : ℕ) → i < s.points + 1 → Reached (pt_at (points_of (put_point store s.points pt)) i)
+    close_behind i hi =
         rw (points_put store s.points pt)
         (elim (ℕ_discrete i s.points) [
-          | yes e ↦ rw (e, get_or-set_same (points_of store) s.points pt origin (rw (points_length store) h)) limit
-          | no q ↦ rw (get_or-set_other (points_of store) s.points i pt origin q) (F.limited i (omega arith))
+          | yes e ↦ rw (e, get_or-set_same (points_of store) s.points pt origin (rw (points_length store) h)) near
+          | no q ↦ rw (get_or-set_other (points_of store) s.points i pt origin q) (F.near i (omega arith))
         ])
 
     points_pushed : points_of (take (2 * (s.points + 1)) (put_point store s.points pt)) ≡ push (walk_of store work s).points pt
@@ -112,7 +112,7 @@ module _ {store : List ℤ} {work : List ℕ} {s : WalkState} (F : Fits store wo
           start_locs = rw e F.start_locs;
           begun = λ i hi. let z = F.begun i hi in omega arith;
           rising = F.rising;
-          limited = all_limited;
+          near = close_behind;
         }
 
     pub walk_longer : walk_of (put_point store s.points pt) work longer ≡ record { points = push (walk_of store work s).points pt; starts = (walk_of store work s).starts; start_locs = (walk_of store work s).start_locs }
@@ -147,7 +147,7 @@ module _ {store : List ℤ} {work : List ℕ} {s : WalkState} (F : Fits store wo
                 | yes q ↦ rw (q, at_put 4 work s.starts s.points inside) (let z = F.begun i (omega arith) in omega arith)
                 | no q ↦ rw (at_put_slot 4 work s.starts (i + 1) s.points q) (F.rising i (omega arith))
               ]);
-          limited = all_limited;
+          near = close_behind;
         }
 
     pub walk_started : walk_of (put_point store s.points pt) (put 4 work s.starts s.points) started ≡ record { points = push (walk_of store work s).points pt; starts = push (walk_of store work s).starts s.points; start_locs = (walk_of store work s).start_locs }
@@ -173,8 +173,8 @@ module _ {store : List ℤ} {work : List ℕ} {s : WalkState} {pt : Point64} (A 
       → Stepped (goal true) store' work' (Walked (record { points = s.points + 1; starts = s.starts + 1; start_locs = s.start_locs }))
   new_walked h {store'} {work'} es ew =
       rw (es, ew)
-      (step_walked (ap ok (walk_started A.fits h pt A.limit) ∙ sym (add_new _ (walk_of store work s) pt s.points count (lt-leb _ _ h)))
-      (fits_started A.fits h pt A.limit))
+      (step_walked (ap ok (walk_started A.fits h pt A.close) ∙ sym (add_new _ (walk_of store work s) pt s.points count (lt-leb _ _ h)))
+      (fits_started A.fits h pt A.close))
 
   pub first_is_new : s.points ≡ 0 → {store' : List ℤ} {work' : List ℕ} {r : Step} → Stepped (goal true) store' work' r → Stepped (goal false) store' work' r
   first_is_new h R = rw (add_first _ (walk_of store work s) pt s.points count h) R
@@ -193,5 +193,5 @@ module _ {store : List ℤ} {work : List ℕ} {s : WalkState} {pt : Point64} (A 
         → Stepped (goal false) store' work (Walked (record { points = s.points + 1; starts = s.starts; start_locs = s.start_locs }))
     other_walked e f {store'} es =
         rw es
-        (step_walked (ap ok (walk_longer A.fits f pt A.limit) ∙ sym (add_longer _ (walk_of store work s) pt s.points count h (rw (last_is h, ← el) e) (lt-leb _ _ f)))
-        (fits_longer A.fits f pt A.limit))
+        (step_walked (ap ok (walk_longer A.fits f pt A.close) ∙ sym (add_longer _ (walk_of store work s) pt s.points count h (rw (last_is h, ← el) e) (lt-leb _ _ f)))
+        (fits_longer A.fits f pt A.close))

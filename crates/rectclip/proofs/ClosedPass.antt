@@ -28,7 +28,7 @@ use Rattle.rectclip.specs.declared.next.NextState.{NextState}
 use Rattle.rectclip.specs.declared.closed.Pass.{Pass}
 use Rattle.rectclip.specs.declared.closed.Advance.{Advance}
 use Rattle.rectclip.specs.declared.closed.Advance.TheVariants.{Refused}
-use Rattle.rectclip.specs.Bounds.{Turn}
+use Rattle.rectclip.specs.Bounds.{LimitedTurn}
 use Rattle.rectclip.specs.Walking.{walk_of, AddsCorners, Fits, Stepped}
 use Rattle.rectclip.specs.Moving.{next_of}
 use Rattle.rectclip.specs.Closing.{pass_of, advance_of, moves_on, first_of, enter_corners, pass_corner, pass_start, pass_in, pass_out, Closes, Passing, Advanced}
@@ -38,7 +38,7 @@ use Rattle.rectclip.proofs.Walking.{step_walked}
 use Rattle.rectclip.proofs.Closing.{advance_as, step_as, step_next, step_lost, step_then, step_stops, step_ends, roomed, outside_starts, outside_corners, outside_stays, entry_first, entry_same, entry_corners, entry_parts, leave_parts, corner_passed, corner_none, start_first, start_none, in_parts, out_corner, out_point, pass_parts, through_second, crossing_enters, crossing_passes, crossing_leaves}
 
 -- ---- points within the limit
-pub turn_limited : {rect : Rect64} {c : Pass} {m : Point64} → Closes rect c → m ≡ mid_point rect → Turn c.prev_pt m c.pt
+pub turn_limited : {rect : Rect64} {c : Pass} {m : Point64} → Closes rect c → m ≡ mid_point rect → LimitedTurn c.prev_pt m c.pt
 turn_limited {rect} H e = record { first = H.start; second = subst Limited (sym e) (mid_point_limited rect (framed rect H.frame)); third = H.end }
 
 pub corners_of : {rect : Rect64} {store : List ℤ} {work : List ℕ} {c : Pass} → Passing rect store work c → AddsCorners rect store work c.walk

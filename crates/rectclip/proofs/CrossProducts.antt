@@ -15,7 +15,7 @@ use Rattle.rectclip.specs.Bounds.{Turn, cross_products}
 use Rattle.rectclip.specs.declared.segment.Products.{Products}
 
 abbrev B : ℕ
-B = 33554432
+B = 33554433
 
 -- the products, over the points' numbers
 abbrev pub AB : Ex

@@ -1,4 +1,5 @@
 -- Laws that the functions' proofs cite.
+pub mod Reach
 pub mod CrossProducts
 pub mod Segments
 pub mod Limits

@@ -15,7 +15,7 @@ use Rattle.plane.specs.Limit.{in_limit, all_in_limit, rect_in_limit, Limited, Li
 use Rattle.plane.specs.Points.{pt_at, points_of}
 use Rattle.plane.specs.Rectangle.{corner}
 use Rattle.integers.specs.Tests.{T_of}
-use Rattle.rectclip.specs.Bounds.{SearchLimits}
+use Rattle.rectclip.specs.Bounds.{Reached, SearchLimits}
 use Rattle.theorems.proofs.Tests.{both}
 
 within : (z : ℤ) → in_limit z ≡ true → nat_abs z ≤ 33554432
@@ -30,12 +30,12 @@ path_limited (x ∷ y ∷ path) e (suc i) = path_limited path (both (in_limit y)
 pub framed : (r : Rect64) → rect_in_limit r ≡ true → LimitedRect r
 framed r e = rect_limited r (T_of e)
 
-pub corner_limited : (r : Rect64) → LimitedRect r → (loc : Location) → Limited (corner r loc)
-corner_limited r l Left = record { across = l.left; down = l.top }
-corner_limited r l Top = record { across = l.right; down = l.top }
-corner_limited r l Right = record { across = l.right; down = l.bottom }
-corner_limited r l Bottom = record { across = l.left; down = l.bottom }
-corner_limited r l Inside = record { across = l.left; down = l.top }
+pub close_corner : (r : Rect64) (loc : Location) → rect_in_limit r ≡ true → Reached (corner r loc)
+close_corner r Left e = let F = framed r e in record { across = omega (arith, F.left); down = omega (arith, F.top) }
+close_corner r Top e = let F = framed r e in record { across = omega (arith, F.right); down = omega (arith, F.top) }
+close_corner r Right e = let F = framed r e in record { across = omega (arith, F.right); down = omega (arith, F.bottom) }
+close_corner r Bottom e = let F = framed r e in record { across = omega (arith, F.left); down = omega (arith, F.bottom) }
+close_corner r Inside e = let F = framed r e in record { across = omega (arith, F.left); down = omega (arith, F.top) }
 
 -- what a search asks, of two points of the path
 pub searches : {r : Rect64} {p p2 : Point64} → rect_in_limit r ≡ true → Limited p → Limited p2 → SearchLimits r p p2

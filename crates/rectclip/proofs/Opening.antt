@@ -51,7 +51,7 @@ fits_fresh R h = record {
   start_locs = omega arith;
   begun = λ i q. absurd (omega arith);
   rising = λ i q. absurd (omega arith);
-  limited = λ i q. absurd (omega arith);
+  near = λ i q. absurd (omega arith);
 }
 
 -- a step from nothing yet, by the state that has nothing

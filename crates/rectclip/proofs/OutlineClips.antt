@@ -75,11 +75,11 @@ walk_drawn : {store : List ℤ} {work : List ℕ} (o : Outline) → Fits store w
 unfolding points_in
 walk_drawn {store} {work} o F = record {
   room = omega (arith, F.points);
-  limited = λ i h.
+  reached = λ i h.
       let Q = points_of store in
       let n = o.walk.points in
       let e : pt_of (take n Q) i ≡ pt_at Q i = get_or-take n Q i (pt_at (take n Q) 0) h ∙ other_default Q i (pt_at (take n Q) 0) origin (rw (points_length store) (omega (arith, F.points))) in
-      rw e (F.limited i h);
+      rw e (F.near i h);
 }
 
 module _ {rect : Rect64} {A : ℕ} {store : List ℤ} {work : List ℕ} {o : Outline} (x : OutlineClips rect A store work o) where

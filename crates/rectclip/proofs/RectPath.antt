@@ -9,17 +9,18 @@ use lib.IntN.{ℤ}
 use Rattle.plane.specs.declared.point.Point64.{Point64}
 use Rattle.plane.specs.declared.rect.Rect64.{Rect64}
 use Rattle.plane.specs.declared.location.Location.TheVariants.{Left, Top, Right, Bottom}
-use Rattle.plane.specs.Limit.{all_in_limit, rect_in_limit, Limited, LimitedRect}
+use Rattle.plane.specs.Limit.{all_in_limit, rect_in_limit}
 use Rattle.plane.specs.Points.{pt_at, points_of, coordinates_of}
 use Rattle.plane.specs.Polygon.{path1_contains_path2}
 use Rattle.plane.specs.Rectangle.{as_path, mid_point, contains_point, get_bounds_path}
 use Rattle.reference.specs.Walk.{Walk, add_all}
 use Rattle.rectclip.specs.declared.walk.WalkState.{WalkState}
 use Rattle.rectclip.specs.declared.walk.Step.{Step}
-use Rattle.rectclip.specs.Bounds.{BothPaths}
+use Rattle.rectclip.specs.Bounds.{Reached, BothPaths}
 use Rattle.rectclip.specs.Walking.{AddsAll, AddsCorners, Stepped}
 use Rattle.rectclip.specs.Outlining.{round_corners, path_contains, Paired}
-use Rattle.rectclip.proofs.Limits.{framed, path_limited, corner_limited}
+use Rattle.rectclip.proofs.Limits.{framed, path_limited, close_corner}
+use Rattle.rectclip.proofs.Reach.{reached}
 use Rattle.rectclip.proofs.Closing.{step_as}
 
 -- ---- the corners, one way or the other
@@ -44,19 +45,19 @@ module _ (rect : Rect64) where
   round_added full w cw eb e R = step_as R (ap (λ (l : List ℤ). add_all full w (points_of l)) e ∙ ap (add_all full w) (round_points cw) ∙ ap (λ (c : Bool). add_all full w (round_corners rect c)) (sym eb))
 
 -- ---- whether the path contains them
-corners_limited : (rect : Rect64) → LimitedRect rect → (i : ℕ) → i < 4 → Limited (pt_at (as_path rect) i)
-corners_limited rect l zero h = corner_limited rect l Left
-corners_limited rect l (suc zero) h = corner_limited rect l Top
-corners_limited rect l (suc (suc zero)) h = corner_limited rect l Right
-corners_limited rect l (suc (suc (suc zero))) h = corner_limited rect l Bottom
-corners_limited rect l (suc (suc (suc (suc i)))) h = absurd (omega arith)
+corner_reached : (rect : Rect64) → rect_in_limit rect ≡ true → (i : ℕ) → i < 4 → Reached (pt_at (as_path rect) i)
+corner_reached rect e zero h = close_corner rect Left e
+corner_reached rect e (suc zero) h = close_corner rect Top e
+corner_reached rect e (suc (suc zero)) h = close_corner rect Right e
+corner_reached rect e (suc (suc (suc zero))) h = close_corner rect Bottom e
+corner_reached rect e (suc (suc (suc (suc i)))) h = absurd (omega arith)
 
 pub both_paths : {rect : Rect64} {path : List ℤ} {bounds : Rect64} {cs : List ℤ} → Paired rect path bounds → cs ≡ coordinates_of (as_path rect) → BothPaths path cs
 both_paths {rect} {path} {bounds} {cs} H e =
     subst (λ (l : List ℤ). BothPaths path l) (sym e)
     (record {
       even = refl;
-      asked = λ i h. record { even = H.even; asked = corners_limited rect (framed rect H.sheet.frame) i h; vertex = λ j k. path_limited path H.sheet.points j };
+      asked = λ i h. record { even = H.even; asked = corner_reached rect H.sheet.frame i h; vertex = λ j k. reached (path_limited path H.sheet.points j) };
     })
 
 module _ (rect : Rect64) (path : List ℤ) {bounds : Rect64} (eo : bounds ≡ get_bounds_path (points_of path)) {m : Point64} (em : m ≡ mid_point rect) {b : Bool} (eb : b ≡ contains_point bounds m) where

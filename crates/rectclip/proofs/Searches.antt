@@ -1,5 +1,4 @@
--- The search over the edges, as the code goes through them: the first edge that has a crossing answers, and what is found lies on its edge, so within
--- the limit. Assumes nothing.
+-- The search over the edges, as the code goes through them: the first edge that has a crossing answers. Assumes nothing.
 use mathlib.Core.Path.{◌≡◌, refl, sym, ap, ◌∙◌, subst}
 use mathlib.Core.Bool.{false}
 use Rattle.plane.specs.Limit.{Limited, AllLimited, LimitedRect}
@@ -14,10 +13,9 @@ use Rattle.plane.specs.declared.location.Location.TheVariants.{Left, Top, Right,
 use Rattle.plane.specs.declared.point.Point64.{Point64}
 use Rattle.plane.specs.declared.rect.Rect64.{Rect64}
 use Rattle.reference.specs.Walk.{second_search}
-use Rattle.theorems.proofs.FoundOnEdge.{found_on_edge, on_edge_in, in_limited}
-use Rattle.rectclip.specs.Bounds.{SearchLimits, OnItsEdge}
+use Rattle.theorems.proofs.Search.{found_outside, outside_across, outside_down}
+use Rattle.rectclip.specs.Bounds.{Reached, SearchLimits, InReach}
 use Rattle.rectclip.specs.Parted.{beyond_intersection}
-use Rattle.rectclip.proofs.Limits.{corner_limited}
 
 -- a search that found something answers, and one that missed leaves the answer to the next
 pub answers : {x e : Search} (y : Search) {q : Point64} {s : Location} → x ≡ e → x ≡ Found q s → x ≡ (e or_else y)
@@ -79,35 +77,42 @@ module _ (r : Rect64) (p p2 : Point64) where
   inside_bottom f g h k m n e = e ∙ passes b m n ∙ passes (rt or_else b) h k ∙ passes (t or_else rt or_else b) f g ∙ inside_parts
 
 -- the edges' ends are corners, and within the limit
+corner_limited : (r : Rect64) → LimitedRect r → Limited (pt_at (as_path r) 0) × Limited (pt_at (as_path r) 1) × Limited (pt_at (as_path r) 2) × Limited (pt_at (as_path r) 3)
+corner_limited r l = (
+  record { across = l.left; down = l.top },
+  record { across = l.right; down = l.top },
+  record { across = l.right; down = l.bottom },
+  record { across = l.left; down = l.bottom },
+)
+
 from_limited : (r : Rect64) → LimitedRect r → (s : Location) → Limited (pt_at (as_path r) (edge_from s))
-from_limited r l Left = corner_limited r l Left
-from_limited r l Top = corner_limited r l Left
-from_limited r l Right = corner_limited r l Top
-from_limited r l Bottom = corner_limited r l Right
-from_limited r l Inside = corner_limited r l Left
+from_limited r l Left = (corner_limited r l).0
+from_limited r l Top = (corner_limited r l).0
+from_limited r l Right = (corner_limited r l).1
+from_limited r l Bottom = (corner_limited r l).2
+from_limited r l Inside = (corner_limited r l).0
 
 to_limited : (r : Rect64) → LimitedRect r → (s : Location) → Limited (pt_at (as_path r) (edge_to s))
-to_limited r l Left = corner_limited r l Bottom
-to_limited r l Top = corner_limited r l Top
-to_limited r l Right = corner_limited r l Right
-to_limited r l Bottom = corner_limited r l Bottom
-to_limited r l Inside = corner_limited r l Left
+to_limited r l Left = (corner_limited r l).3
+to_limited r l Top = (corner_limited r l).1
+to_limited r l Right = (corner_limited r l).2
+to_limited r l Bottom = (corner_limited r l).3
+to_limited r l Inside = (corner_limited r l).0
 
 pub edge_limited : {r : Rect64} {p p2 a b : Point64} (s : Location) → SearchLimits r p p2 → a ≡ pt_at (as_path r) (edge_from s) → b ≡ pt_at (as_path r) (edge_to s) → AllLimited p p2 a b
 edge_limited {r} s h e f = record { start = h.start; end = h.end; edge = subst Limited (sym e) (from_limited r h.rect s); far = subst Limited (sym f) (to_limited r h.rect s) }
 
--- what was found lies on its edge
-pub on_its_edge : (r : Rect64) (p p2 : Point64) (loc : Location) {x : Search} → x ≡ get_intersection r p p2 loc → OnItsEdge r x
-on_its_edge r p p2 loc e = record { on = λ n q s f. found_on_edge r p p2 q loc s n (sym e ∙ f) }
+-- what was found is near
+pub in_reach : {r : Rect64} {p p2 : Point64} (loc : Location) {x : Search} → SearchLimits r p p2 → x ≡ get_intersection r p p2 loc → InReach r x
+in_reach {r} {p} {p2} loc h e = record {
+  outside = λ n q s f. found_outside r h.rect n p p2 h.start h.end loc q s (sym e ∙ f);
+  reached = λ n q s f. let o = found_outside r h.rect n p p2 h.start h.end loc q s (sym e ∙ f) in record { across = outside_across h.rect o; down = outside_down h.rect o };
+}
 
--- so it is within the limit, where the rectangle is
-pub found_limited : {r : Rect64} {x : Search} {q : Point64} {s : Location} → LimitedRect r → is_empty r ≡ false → OnItsEdge r x → x ≡ Found q s → Limited q
-found_limited {q} {s} l n o e = in_limited l (on_edge_in n (o.on n q s e))
-
--- the second search of a passing segment: what it found, or the first search's point, is within the limit
-pub second_limited : {r : Rect64} {x : Search} (ip : Point64) (prev : Location) → LimitedRect r → is_empty r ≡ false → OnItsEdge r x → Limited ip → Limited (found_or x ip prev).point
-second_limited {x = Missed} ip prev l n o h = h
-second_limited {x = Found q s} ip prev l n o h = found_limited l n o refl
+-- the second search of a passing segment: what it found, or the first search's point, is in reach
+pub second_reached : {r : Rect64} {x : Search} (ip : Point64) (prev : Location) → is_empty r ≡ false → InReach r x → Reached ip → Reached (found_or x ip prev).point
+second_reached {x = Missed} ip prev n f h = h
+second_reached {x = Found q s} ip prev n f h = f.reached n q s refl
 
 pub second_is : (r : Rect64) (prev_pt pt : Point64) (prev : Location) (ip : Point64) {x : Search} → x ≡ get_intersection r prev_pt pt prev → found_or x ip prev ≡ second_search r prev_pt pt prev ip
 unfolding second_search

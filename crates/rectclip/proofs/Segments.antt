@@ -9,7 +9,7 @@ use mir.Facts.{to_z-of_z, sfits_lit}
 use Rattle.integers.specs.Tests.{eq_z, eq_plain, ne_plain}
 use Rattle.plane.specs.Segment.{intersection}
 use Rattle.plane.specs.Signs.{cross_product_sign}
-use Rattle.plane.specs.Intersection.{held_to_edge, at_end, get_segment_intersection}
+use Rattle.plane.specs.Intersection.{at_end, get_segment_intersection}
 use Rattle.plane.specs.declared.crossing.Meeting.{Meeting}
 use Rattle.plane.specs.declared.crossing.Meeting.TheVariants.{Apart}
 use Rattle.plane.specs.declared.point.Point64.{Point64}
@@ -56,7 +56,7 @@ module _ (p1 p2 p3 p4 : Point64) where
   unfolding edge_ends
   edge_past e f g = rw (e, f, g)
 
-  pub edge_between : eq_z s3 (pos 0) ≡ false → eq_z s4 (pos 0) ≡ false → beq (lt_z (pos 0) s3) (lt_z (pos 0) s4) ≡ false → held_to_edge p3 p4 (intersection p1 p2 p3 p4) ≡ edge_ends p1 p2 p3 p4
+  pub edge_between : eq_z s3 (pos 0) ≡ false → eq_z s4 (pos 0) ≡ false → beq (lt_z (pos 0) s3) (lt_z (pos 0) s4) ≡ false → intersection p1 p2 p3 p4 ≡ edge_ends p1 p2 p3 p4
   unfolding edge_ends
   edge_between e f g = rw (e, f, g)
 

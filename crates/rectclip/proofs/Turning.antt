@@ -192,7 +192,7 @@ module _ {store : List ℤ} {work : List ℕ} {s : WalkState} (loc : Location) (
             at_put_field 5 4 work s.start_locs (i + 1) (side_number loc) (omega arith) (omega arith) (λ q. omega arith),
           )
           (F.rising i hi);
-      limited = F.limited;
+      near = F.near;
     }
 
     pushed : map location (column 5 (s.start_locs + 1) (put 5 work s.start_locs (side_number loc))) ≡ push (map location (column 5 s.start_locs work)) loc

@@ -21,6 +21,7 @@ use Rattle.rectclip.specs.declared.closed.Pass.{Pass}
 use Rattle.rectclip.specs.declared.closed.Advance.{Advance}
 use Rattle.rectclip.specs.declared.closed.Advance.TheVariants.{On, Refused}
 use Rattle.entry.specs.Answers.{number}
+use Rattle.rectclip.specs.Bounds.{Reached}
 use Rattle.rectclip.specs.Walking.{walk_of, AddsCorners, Fits}
 
 -- ---- the definition's records, of the lists
@@ -105,17 +106,17 @@ pub record Passing (rect : Rect64) (store : List ℤ) (work : List ℕ) (c : Pas
 -- the same with a crossing
 pub record Crossed (rect : Rect64) (store : List ℤ) (work : List ℕ) (c : Pass) (ip : Point64) : Type 0 where
   pub passing : Passing rect store work c
-  pub at : Limited ip
+  pub close : Reached ip
 
 -- a crossing where the segment comes in besides
 pub record Passes (rect : Rect64) (store : List ℤ) (work : List ℕ) (c : Pass) (ip ip2 : Point64) : Type 0 where
   pub leaves : Crossed rect store work c ip
-  pub enters : Limited ip2
+  pub enters : Reached ip2
 
 -- a walk that goes out at ip
 pub record Exits (rect : Rect64) (store : List ℤ) (work : List ℕ) (s : WalkState) (ip : Point64) : Type 0 where
   pub corners : AddsCorners rect store work s
-  pub at : Limited ip
+  pub close : Reached ip
 
 -- ---- what they ensure of the lists as they leave them: the answer is the definition's, and the walk fits again
 pub record Advanced (goal : Try State) (store : List ℤ) (work : List ℕ) (r : Advance) : Type 0 where

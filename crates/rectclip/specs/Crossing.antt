@@ -16,6 +16,7 @@ use Rattle.rectclip.specs.declared.walk.Step.TheVariants.{Walked, Refused}
 use Rattle.rectclip.specs.declared.next.NextState.{NextState}
 use Rattle.rectclip.specs.declared.next.Move.{Move}
 use Rattle.rectclip.specs.declared.next.Move.TheVariants.{To, Stopped}
+use Rattle.rectclip.specs.Bounds.{Reached}
 use Rattle.rectclip.specs.Memory.{Room}
 use Rattle.rectclip.specs.Walking.{Fits, Sheet}
 
@@ -44,7 +45,7 @@ pub record Crosses (rect : Rect64) (store : List ℤ) (work : List ℕ) (s : Wal
   pub frame : rect_in_limit rect ≡ true
   pub start : Limited prev_pt
   pub end : Limited pt
-  pub at : Limited ip
+  pub at : Reached ip
 
 -- a pass from the second point on
 pub record PassFrom (rect : Rect64) (path store : List ℤ) (work : List ℕ) (n : NextState) : Type 0 where

@@ -7,7 +7,7 @@ use Rattle.plane.specs.Basics.{if◌then◌else◌}
 use Rattle.plane.specs.Segment.{intersection}
 use Rattle.plane.specs.Signs.{cross_product_sign}
 use Rattle.plane.specs.Rectangle.{beyond}
-use Rattle.plane.specs.Intersection.{held_to_edge, at_end, edge_intersection}
+use Rattle.plane.specs.Intersection.{at_end, edge_intersection}
 use Rattle.plane.specs.declared.crossing.Meeting.{Meeting}
 use Rattle.plane.specs.declared.crossing.Meeting.TheVariants.{Apart}
 use Rattle.plane.specs.declared.crossing.Search.{Search}
@@ -16,7 +16,7 @@ use Rattle.plane.specs.declared.location.Location.{Location}
 use Rattle.plane.specs.declared.point.Point64.{Point64}
 use Rattle.plane.specs.declared.rect.Rect64.{Rect64}
 
--- the later half of `get_segment_intersection`: an end of the edge on the segment, or the float crossing, put on the edge
+-- the later half of `get_segment_intersection`: an end of the edge on the segment, or a point between
 unfoldable pub edge_ends : Point64 → Point64 → Point64 → Point64 → Meeting
 edge_ends p1 p2 p3 p4 =
     let res3 = cross_product_sign p3 p1 p2 in
@@ -24,7 +24,7 @@ edge_ends p1 p2 p3 p4 =
     if eq_z res3 (pos 0) then at_end p3 p1 p2
     else if eq_z res4 (pos 0) then at_end p4 p1 p2
     else if beq (lt_z (pos 0) res3) (lt_z (pos 0) res4) then Apart
-    else held_to_edge p3 p4 (intersection p1 p2 p3 p4)
+    else intersection p1 p2 p3 p4
 
 -- of `get_intersection`: the edge of a side is tried only where p is beyond the side
 unfoldable pub beyond_intersection : Rect64 → Location → Point64 → Point64 → Search

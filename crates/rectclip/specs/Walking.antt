@@ -5,7 +5,7 @@ use Rattle.plane.specs.declared.location.Location.{Location}
 use Rattle.plane.specs.declared.location.Location.TheVariants.{Left, Top, Right, Bottom, Inside}
 use Rattle.plane.specs.declared.rect.Rect64.{Rect64}
 use Rattle.plane.specs.Basics.{if◌then◌else◌, Try, refuse, ok}
-use Rattle.plane.specs.Limit.{all_in_limit, rect_in_limit, Limited}
+use Rattle.plane.specs.Limit.{all_in_limit, rect_in_limit}
 use Rattle.plane.specs.Locations.{get_adjacent_location}
 use Rattle.plane.specs.Points.{pt_at, points_of}
 use Rattle.plane.specs.Rectangle.{is_empty, corner}
@@ -14,6 +14,7 @@ use Rattle.rectclip.specs.declared.walk.WalkState.{WalkState}
 use Rattle.rectclip.specs.declared.walk.Step.{Step}
 use Rattle.rectclip.specs.declared.walk.Step.TheVariants.{Walked, Refused}
 use Rattle.entry.specs.Answers.{number}
+use Rattle.rectclip.specs.Bounds.{Reached}
 use Rattle.rectclip.specs.Memory.{at, Room, column}
 
 -- the location of a number of the side order
@@ -46,7 +47,7 @@ pub record Fits (store : List ℤ) (work : List ℕ) (s : WalkState) : Type 0 wh
   pub start_locs : s.start_locs ≤ length store / 2
   pub begun : (i : ℕ) → i < s.starts → at 4 work i < s.points
   pub rising : (i : ℕ) → i + 1 < s.starts → at 4 work i ≤ at 4 work (i + 1)
-  pub limited : (i : ℕ) → i < s.points → Limited (pt_at (points_of store) i)
+  pub near : (i : ℕ) → i < s.points → Reached (pt_at (points_of store) i)
 
 -- a rectangle that is not empty, and a path, within the coordinate limit
 pub record Sheet (rect : Rect64) (path : List ℤ) : Type 0 where
@@ -57,7 +58,7 @@ pub record Sheet (rect : Rect64) (path : List ℤ) : Type 0 where
 -- what a step of the walk needs, with a point to add; with all points of a path; with corners of the rectangle
 pub record Adds (store : List ℤ) (work : List ℕ) (s : WalkState) (pt : Point64) : Type 0 where
   pub fits : Fits store work s
-  pub limit : Limited pt
+  pub close : Reached pt
 
 pub record AddsAll (path store : List ℤ) (work : List ℕ) (s : WalkState) : Type 0 where
   pub fits : Fits store work s

@@ -1,17 +1,16 @@
 // The crossing of a segment with an edge of the rectangle, and the search over the edges: `get_segment_intersection` and `get_intersection`.
-// A crossing in floats is put on its edge, so that what a search finds lies on the edge of its side.
 ghost use Rattle.std.specs.Bool.{beq};
 ghost use Rattle.std.specs.Prelude.{◌≡◌};
 ghost use Rattle.std.specs.Int.Signed.{lt_z};
 ghost use Rattle.plane.specs.Basics.{if◌then◌else◌};
-ghost use Rattle.plane.specs.Limit.{AllLimited, Limited};
+ghost use Rattle.plane.specs.Limit.{AllLimited};
 ghost use Rattle.plane.specs.Intersection.{at_end, get_segment_intersection, edge_from, edge_to, edge_intersection, side_intersection, get_intersection};
 ghost use Rattle.plane.specs.Points.{pt_at};
 ghost use Rattle.plane.specs.Rectangle.{as_path};
 ghost use Rattle.plane.specs.declared.location.Location.TheVariants.{Inside};
 ghost use Rattle.plane.specs.declared.crossing.Meeting.TheVariants.{Met, Apart};
 ghost use Rattle.reference.specs.Walk.{second_search};
-ghost use Rattle.rectclip.specs.Bounds.{SearchLimits, OnItsEdge, SecondSearch};
+ghost use Rattle.rectclip.specs.Bounds.{Reached, SearchLimits, InReach, SecondSearch};
 ghost use Rattle.rectclip.specs.Parted.{edge_ends, beyond_intersection};
 
 use crate::segment::{cross_product_sign, get_segment_intersect_pt};
@@ -44,8 +43,7 @@ pub(crate) fn at_end(p: Point64, a: Point64, b: Point64) -> Meeting
     point_between(p, a.y, p.y, b.y)
 }
 
-// The crossing of a segment whose ends are strictly on either side of the edge's line: an end of the edge on the segment, or the float crossing,
-// put on the edge.
+// The crossing of a segment whose ends are strictly on either side of the edge's line: an end of the edge on the segment, or a point between.
 fn edge_ends(p1: Point64, p2: Point64, p3: Point64, p4: Point64) -> Meeting
     requires { AllLimited p1 p2 p3 p4 }
     ensures { result ≡ edge_ends p1 p2 p3 p4 }
@@ -61,7 +59,7 @@ fn edge_ends(p1: Point64, p2: Point64, p3: Point64, p4: Point64) -> Meeting
     if (0 < res3) == (0 < res4) {
         return Meeting::Apart;
     }
-    get_segment_intersect_pt(p1, p2, p3, p4).held_to_edge(p3, p4)
+    get_segment_intersect_pt(p1, p2, p3, p4)
 }
 
 // Where the segment from p1 to p2 and the edge from p3 to p4 meet, in whole numbers. Ends before floats; collinear segments answer no.
@@ -178,11 +176,11 @@ fn inside_intersection(rect: Rect64, p: Point64, p2: Point64) -> Search
     edge_intersection(rect, Location::Bottom, p, p2)
 }
 
-// The crossing of the segment from p to p2 with the boundary, seen from a location, and the side whose edge it lies on.
+// The crossing of the segment from p to p2 with the boundary, seen from a location, and its side.
 pub(crate) fn get_intersection(rect: Rect64, p: Point64, p2: Point64, loc: Location) -> Search
     requires { SearchLimits rect p p2 }
     ensures is { result ≡ get_intersection rect p p2 loc }
-    ensures on { OnItsEdge rect result }
+    ensures near { InReach rect result }
 {
     match loc {
         Location::Left => side_intersection(rect, Location::Left, p, p2),
@@ -203,7 +201,7 @@ pub(crate) fn second_search(
 ) -> SidePoint
     requires { SecondSearch rect prev_pt pt ip }
     ensures is { result ≡ second_search rect prev_pt pt prev ip }
-    ensures limited { Limited result.point }
+    ensures near { Reached result.point }
 {
     get_intersection(rect, prev_pt, pt, prev).found_or(ip, prev)
 }

@@ -5,7 +5,7 @@ ghost use Rattle.plane.specs.Limit.{AllLimited};
 ghost use Rattle.plane.specs.Signs.{cross_product_sign, is_collinear, cross_product_is_negative, is_clockwise_dir};
 ghost use Rattle.plane.specs.Segment.{working_of, crossing_of, point_at, settled_of, intersection};
 ghost use Rattle.plane.specs.Found.{NearCrossing};
-ghost use Rattle.rectclip.specs.Bounds.{Turn, cross_products};
+ghost use Rattle.rectclip.specs.Bounds.{Turn, LimitedTurn, cross_products};
 
 use plane::crossing::{Crossing, Meeting, Working};
 use plane::location::Location;
@@ -59,7 +59,7 @@ pub(crate) fn is_collinear(p1: Point64, shared: Point64, p2: Point64) -> bool
 
 // `cross_product_three_points < 0.0`: within the coordinate limit the binary64 numbers are whole numbers that i64 holds.
 pub(crate) fn cross_product_is_negative(p1: Point64, p2: Point64, p3: Point64) -> bool
-    requires { Turn p1 p2 p3 }
+    requires { LimitedTurn p1 p2 p3 }
     ensures { result ≡ cross_product_is_negative p1 p2 p3 }
 {
     let turn = cross_products(p1, p2, p3);
@@ -74,7 +74,7 @@ pub(crate) fn is_clockwise_dir(
     curr_pt: Point64,
     rect_mp: Point64,
 ) -> bool
-    requires { Turn prev_pt rect_mp curr_pt }
+    requires { LimitedTurn prev_pt rect_mp curr_pt }
     ensures { result ≡ is_clockwise_dir prev curr prev_pt curr_pt rect_mp }
 {
     if prev.are_opposites(curr) {

@@ -62,7 +62,7 @@ table =
     (returned 1 2 (pos 0 ∷ pos 10 ∷ pos 100 ∷ pos 10 ∷ pos 7 ∷ pos 7 ∷ pos 7 ∷ pos 7 ∷ pos 7 ∷ pos 7 ∷ []) (2 ∷ 7 ∷ [])) ∷
     -- 3
     L (R (pos 1) (pos 0) (pos 100) (pos 100)) (pos 49 ∷ pos 10 ∷ pos 0 ∷ pos 10 ∷ [])
-    (returned 1 2 (pos 49 ∷ pos 10 ∷ pos 1 ∷ pos 10 ∷ pos 7 ∷ pos 7 ∷ pos 7 ∷ pos 7 ∷ pos 7 ∷ pos 7 ∷ []) (2 ∷ 7 ∷ [])) ∷
+    (returned 1 2 (pos 49 ∷ pos 10 ∷ pos 0 ∷ pos 10 ∷ pos 7 ∷ pos 7 ∷ pos 7 ∷ pos 7 ∷ pos 7 ∷ pos 7 ∷ []) (2 ∷ 7 ∷ [])) ∷
     -- 4
     C (R (pos 0) (pos 0) (pos 100) (pos 100)) (pos 0 ∷ pos 0 ∷ pos 100 ∷ pos 0 ∷ pos 100 ∷ pos 100 ∷ [])
     (returned 1 3 (pos 0 ∷ pos 0 ∷ pos 100 ∷ pos 0 ∷ pos 100 ∷ pos 100 ∷ pos 7 ∷ pos 7 ∷ pos 7 ∷ pos 7 ∷ []) (3 ∷ 7 ∷ [])) ∷

@@ -10,7 +10,6 @@ use lib.Dec.{leb}
 use lib.IntN.{ℤ, pos, negsuc, nat_abs}
 use borrow.Author.Tests.{leb-true, leb-false}
 use Rattle.plane.specs.Basics.{if◌then◌else◌}
-use Rattle.plane.specs.Limit.{Limited}
 use Rattle.plane.specs.Points.{coordinates_of}
 use Rattle.plane.specs.declared.point.Point64.{Point64}
 use Rattle.text.specs.Decimal.{places, decimal, signed_decimal}
@@ -59,12 +58,12 @@ count_width : (n : ℕ) → length (signed_decimal (pos n)) ≤ suc n
 unfolding signed_decimal decimal
 count_width n = omega (arith, length_last (places 19 n) n, places_said 19 n)
 
--- a coordinate within the limit
-eight : (n : ℕ) → n ≤ 33554432 → length (decimal n) ≤ 8
+-- a coordinate of at most 33,554,433
+eight : (n : ℕ) → n ≤ 33554433 → length (decimal n) ≤ 8
 unfolding decimal
 eight n h = omega (arith, length_last (places 19 n) n, places_below 7 19 n (omega arith))
 
-coordinate_width : (z : ℤ) → nat_abs z ≤ 33554432 → length (signed_decimal z) ≤ 9
+coordinate_width : (z : ℤ) → nat_abs z ≤ 33554433 → length (signed_decimal z) ≤ 9
 unfolding signed_decimal
 coordinate_width (pos n) h = omega (arith, eight n h)
 coordinate_width (negsuc n) h = omega (arith, eight (suc n) h)
@@ -81,14 +80,18 @@ commas_width (z ∷ zs) = omega (arith, comma_width z zs, number_width z, commas
 pub line_width : (letter : ℕ) (zs : List ℤ) → length (line_of letter zs) ≤ 2 + 22 * length zs
 line_width letter zs = omega (arith, line_length letter [] zs, commas_width zs)
 
-coordinates_width : (p : List Point64) → ((q : Point64) → Memᴰ q p → Limited q) → length (comma_numbers (coordinates_of p)) ≤ 20 * length p
-coordinates_width [] limited = omega arith
-coordinates_width (q ∷ p) limited =
-    let m = limited q (Memᴰ.head refl) in
-    omega (arith, comma_width q.x (q.y ∷ coordinates_of p), comma_width q.y (coordinates_of p), coordinate_width q.x m.across, coordinate_width q.y m.down, coordinates_width p (λ q' i. limited q' (Memᴰ.tail i)))
+-- within the limit and one unit more
+abbrev pub Near : Point64 → Type 0
+Near p = (nat_abs p.x ≤ 33554433) × (nat_abs p.y ≤ 33554433)
+
+coordinates_width : (p : List Point64) → ((q : Point64) → Memᴰ q p → Near q) → length (comma_numbers (coordinates_of p)) ≤ 20 * length p
+coordinates_width [] near = omega arith
+coordinates_width (q ∷ p) near =
+    let m = near q (Memᴰ.head refl) in
+    omega (arith, comma_width q.x (q.y ∷ coordinates_of p), comma_width q.y (coordinates_of p), coordinate_width q.x m.0, coordinate_width q.y m.1, coordinates_width p (λ q' i. near q' (Memᴰ.tail i)))
 
 -- of a path: 26 bytes, and 21 for each point
-pub path_width : (closed : Bool) (line : ℤ) (p : List Point64) → ((q : Point64) → Memᴰ q p → Limited q) → length (path_line closed line p) ≤ 26 + 21 * length p
-path_width closed line p limited =
+pub path_width : (closed : Bool) (line : ℤ) (p : List Point64) → ((q : Point64) → Memᴰ q p → Near q) → length (path_line closed line p) ≤ 26 + 21 * length p
+path_width closed line p near =
     let cs = coordinates_of p in
-    omega (arith, line_length (if closed then 67 else 76) [] (line ∷ pos (length p) ∷ cs), comma_width line (pos (length p) ∷ cs), comma_width (pos (length p)) cs, number_width line, count_width (length p), coordinates_width p limited)
+    omega (arith, line_length (if closed then 67 else 76) [] (line ∷ pos (length p) ∷ cs), comma_width line (pos (length p) ∷ cs), comma_width (pos (length p)) cs, number_width line, count_width (length p), coordinates_width p near)

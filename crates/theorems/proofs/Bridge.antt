@@ -1,4 +1,4 @@
--- The search of the definitions is the search of the geometry: within the coordinate limit, on a proper rectangle, with the crossing in floats, held to its edge, for `Calc`.
+-- The search of the definitions is the search of the geometry: within the coordinate limit, on a proper rectangle, with the crossing in floats for `Calc`.
 use mathlib.Core.Path.{◌≡◌, refl, sym, ◌∙◌, ap}
 use mathlib.Core.Bool.{Bool, true, false, cond, ◌&&◌, ◌||◌, beq}
 use mathlib.Core.Logic.{inl, inr}
@@ -24,7 +24,7 @@ use Rattle.plane.specs.declared.crossing.Search.{Search}
 use Rattle.plane.specs.declared.crossing.Search.TheVariants.{Missed, Found}
 use Rattle.plane.specs.Signs.{cross_product_sign}
 use Rattle.plane.specs.Points.{origin}
-use Rattle.plane.specs.Intersection.{held_to_edge, at_end, get_segment_intersection, met, edge_intersection, ◌or_else◌, side_intersection, get_intersection}
+use Rattle.plane.specs.Intersection.{at_end, get_segment_intersection, met, edge_intersection, ◌or_else◌, side_intersection, get_intersection}
 use Rattle.theorems.proofs.GeoPlane.{sign, cross, zero?, up?, same, same_pt, on, Hit, none, known, proper, hit?, known?, segment, Side, on_left, on_top, on_right, on_bottom, loc, from, to, edge, Found as Finding, nothing, found, try, search, Proper}
 use Rattle.theorems.proofs.GeoTell.{NonZero}
 use Rattle.theorems.proofs.GeoCrossing.{det_non}
@@ -47,7 +47,7 @@ same_is false true = refl
 same_is false false = refl
 
 -- what the definitions answer for a hit; f: the answer in floats
-abbrev pub answer : Meeting → Hit → Meeting
+abbrev answer : Meeting → Hit → Meeting
 answer f none = Apart
 answer f (known e) = Met e
 answer f proper = f
@@ -71,7 +71,7 @@ at_end_is f p a b =
     all false false x true = refl
     all false false x false = refl
 
-pub segment_is : (p1 p2 p3 p4 : Point64) → get_segment_intersection p1 p2 p3 p4 ≡ answer (held_to_edge p3 p4 (intersection p1 p2 p3 p4)) (segment p1 p2 p3 p4)
+segment_is : (p1 p2 p3 p4 : Point64) → get_segment_intersection p1 p2 p3 p4 ≡ answer (intersection p1 p2 p3 p4) (segment p1 p2 p3 p4)
 unfolding get_segment_intersection
 segment_is p1 p2 p3 p4 =
     (λ i. cond (eq_z (sign_is p1 p3 p4 i) (pos 0)) (cond (eq_z (sign_is p2 p3 p4 i) (pos 0)) Apart (at_end_is f p1 p3 p4 i))
@@ -89,7 +89,7 @@ segment_is p1 p2 p3 p4 =
     ∙ all (zero? (cross p1 p3 p4)) (zero? (cross p2 p3 p4)) (same (up? (cross p1 p3 p4)) (up? (cross p2 p3 p4))) (zero? (cross p3 p1 p2)) (zero? (cross p4 p1 p2)) (same (up? (cross p3 p1 p2)) (up? (cross p4 p1 p2)))
   where
     f : Meeting
-    f = held_to_edge p3 p4 (intersection p1 p2 p3 p4)
+    f = intersection p1 p2 p3 p4
 
     h1 : Hit
     h1 = known? (on p1 p3 p4) p1
@@ -119,9 +119,9 @@ abbrev pub at : Meeting → Point64
 at Apart = origin
 at (Met e) = e
 
--- the crossing in floats, held to its edge
+-- the crossing in floats
 abbrev pub floats : Calc
-floats p q a b = at (held_to_edge a b (intersection p q a b))
+floats p q a b = at (intersection p q a b)
 
 non_size : (z : ℤ) → NonZero z → 0 < nat_abs z
 non_size (pos zero) (inl h) = absurd (<ℤ_irrefl h)
@@ -130,12 +130,12 @@ non_size (pos (suc n)) h = suc-le-suc zero-le
 non_size (negsuc n) h = suc-le-suc zero-le
 
 finds : (s : Location) (p q a b : Point64) → AllLimited p q a b → NonZero ((q.y -ℤ p.y) *ℤ (b.x -ℤ a.x) -ℤ (b.y -ℤ a.y) *ℤ (q.x -ℤ p.x))
-    → met s (held_to_edge a b (intersection p q a b)) ≡ Found (floats p q a b) s
+    → met s (intersection p q a b) ≡ Found (floats p q a b) s
 unfolding intersection crossing_of working_of
 finds s p q a b l h = go (eq (determinant p q a b) zero_f) (le (fraction p q a b) zero_f) (le one_f (fraction p q a b)) (not_eq_zero (determinant p q a b) _ (determinant_is p q a b l) (non_size _ h))
   where
-    go : (z c d : Bool) → z ≡ false → met s (held_to_edge a b (settled_of (cond z Nothing (cond c (At p) (cond d (At q) (Along (fraction p q a b))))) (working_of p q a b)))
-        ≡ Found (at (held_to_edge a b (settled_of (cond z Nothing (cond c (At p) (cond d (At q) (Along (fraction p q a b))))) (working_of p q a b)))) s
+    go : (z c d : Bool) → z ≡ false → met s (settled_of (cond z Nothing (cond c (At p) (cond d (At q) (Along (fraction p q a b))))) (working_of p q a b))
+        ≡ Found (at (settled_of (cond z Nothing (cond c (At p) (cond d (At q) (Along (fraction p q a b))))) (working_of p q a b))) s
     go true c d e = let z : ◌≡◌ {A = ℕ} 0 1 = cc in absurd (omega arith)
     go false true d e = refl
     go false false true e = refl
@@ -158,7 +158,7 @@ module _ (r : Rect64) (lr : LimitedRect r) (k : Proper r) (p q : Point64) (lp : 
   corners on_right = record { start = lp; end = lq; edge = record { across = lr.right; down = lr.top }; far = record { across = lr.right; down = lr.bottom } }
   corners on_bottom = record { start = lp; end = lq; edge = record { across = lr.right; down = lr.bottom }; far = record { across = lr.left; down = lr.bottom } }
 
-  met_is : (s : Side) (h : Hit) → edge r s p q ≡ h → met (loc s) (answer (held_to_edge (from r s) (to r s) (intersection p q (from r s) (to r s))) h) ≡ hit s h
+  met_is : (s : Side) (h : Hit) → edge r s p q ≡ h → met (loc s) (answer (intersection p q (from r s) (to r s)) h) ≡ hit s h
   met_is s none e = refl
   met_is s (known x) e = refl
   met_is s proper e = finds (loc s) p q (from r s) (to r s) (corners s) (det_non r k s p q e)

@@ -23,8 +23,7 @@ use Rattle.reference.specs.Walk.{Next, get_next_location, State, pt_before, pass
 use Rattle.theorems.specs.Walks.{given, begun, pass_count}
 use Rattle.theorems.specs.CornerLoops.{Arrives, GoesRound, PassEnds, pass_of, WalkCornersEnd, CornerLoopsEnd}
 use Rattle.theorems.proofs.Holds.{Holds, held, bind, holds_both, either, by_search, by_second_search, All, all_at, holds_ok}
-use Rattle.theorems.proofs.Demand.{points_limited}
-use Rattle.theorems.proofs.GeoTell.{proper_rect}
+use Rattle.theorems.proofs.Demand.{points_limited, not_empty_order}
 use Rattle.theorems.proofs.GeoPlane.{loc, Proper}
 use Rattle.theorems.proofs.GeoSearch.{Finds, enter as enter_geo, leave as leave_geo}
 use Rattle.theorems.proofs.Bridge.{told, search_told}
@@ -140,4 +139,5 @@ module _ (full : ℕ → Bool) (r : Rect64) (path : List Point64) (lr : LimitedR
 -- In every call within the coordinate limit, on a rectangle that is not empty.
 pub corner_loops_end : CornerLoopsEnd
 corner_loops_end full rect coords hr hc he =
-    walk_corners_end full rect (points_of coords) (rect_limited rect hr) (proper_rect rect he) (points_limited coords hc)
+    let o = not_empty_order rect he in
+    walk_corners_end full rect (points_of coords) (rect_limited rect hr) (record { wide = o.0; high = o.1 }) (points_limited coords hc)

@@ -15,14 +15,9 @@ use Rattle.plane.specs.declared.crossing.Crossing.{Crossing}
 use Rattle.plane.specs.declared.crossing.Crossing.TheVariants.{Nothing, At, Along}
 use Rattle.plane.specs.declared.crossing.Meeting.TheVariants.{Met}
 use Rattle.plane.specs.Limit.{AllLimited}
-use Rattle.plane.specs.Points.{point}
 use Rattle.plane.specs.Segment.{determinant, numerator, fraction, working_of, crossing_of, point_at, settled_of, intersection}
 use Rattle.plane.specs.Found.{Found, NearCrossing}
 use Rattle.integers.specs.Order.{abs_mul as size_mul}
-
--- the point n / d of the way from a to b, as binary64 has it
-abbrev pub part_way : Point64 → Point64 → ℕ → ℕ → Point64
-part_way a b n d = point (coordinate a.x b.x (round binary64 false n d)) (coordinate a.y b.y (round binary64 false n d))
 
 -- ---- numerator and determinant are exact
 module _ (a b c d : Point64) (h : AllLimited a b c d) where
@@ -67,26 +62,30 @@ module _ (a b c d : Point64) (h : AllLimited a b c d) where
         ∙ ap (λ (z : Bool). cond z (At b) (Along t))
         (ap (λ (z : Float). le one_f z) fraction_is ∙ rounded_below_one (nat_abs p) (nat_abs q) P L Q)
 
-    point_is : point_at (working_of a b c d) (round binary64 false (nat_abs p) (nat_abs q)) ≡ part_way a b (nat_abs p) (nat_abs q)
-    unfolding point_at working_of coordinate
+    point : Point64
+    point = record {
+      x = coordinate a.x b.x (round binary64 false (nat_abs p) (nat_abs q));
+      y = coordinate a.y b.y (round binary64 false (nat_abs p) (nat_abs q));
+    }
+
+    point_is : point_at (working_of a b c d) (round binary64 false (nat_abs p) (nat_abs q)) ≡ point
+    unfolding point point_at working_of coordinate
     point_is = refl
 
-    crossed_at : intersection a b c d ≡ Met (part_way a b (nat_abs p) (nat_abs q))
-    unfolding intersection
-    crossed_at = ap (λ (k : Crossing). settled_of k (working_of a b c d)) (crossing_is ∙ ap Along fraction_is) ∙ ap Met point_is
-
-  near : (m n : ℕ) → m < n → intersection a b c d ≡ Met (part_way a b m n) → Found a b m n (intersection a b c d)
-  near m n l e = record {
-    point = part_way a b m n;
-    is = e;
-    near_x = coordinate_near a.x b.x m n h.start.across h.end.across l;
-    near_y = coordinate_near a.y b.y m n h.start.down h.end.down l;
-  }
+    crossed_at : Found a b (nat_abs p) (nat_abs q) (intersection a b c d)
+    unfolding intersection point
+    crossed_at = record {
+      point = point;
+      is =
+          ap (λ (k : Crossing). settled_of k (working_of a b c d)) (crossing_is ∙ ap Along fraction_is) ∙ ap Met point_is;
+      near_x = coordinate_near a.x b.x (nat_abs p) (nat_abs q) h.start.across h.end.across L;
+      near_y = coordinate_near a.y b.y (nat_abs p) (nat_abs q) h.start.down h.end.down L;
+    }
 
   -- ---- an edge along x = c.x
-  pub upright_at : d.x ≡ c.x → 0 < nat_abs (d.y -ℤ c.y) → Crosses a.x c.x b.x
-      → intersection a b c d ≡ Met (part_way a b (nat_abs (a.x -ℤ c.x)) (nat_abs (a.x -ℤ b.x)))
-  upright_at e w k =
+  pub upright_near : d.x ≡ c.x → 0 < nat_abs (d.y -ℤ c.y) → Crosses a.x c.x b.x
+      → Found a b (nat_abs (a.x -ℤ c.x)) (nat_abs (a.x -ℤ b.x)) (intersection a b c d)
+  upright_near e w k =
       let z : d.x -ℤ c.x ≡ pos 0 = none d.x c.x e in
       crossed_at (a.x -ℤ c.x) (a.x -ℤ b.x) (d.y -ℤ c.y) k.before w (crosses_lt a.x c.x b.x k)
       (difference_small a.x b.x h.start.across h.end.across) (crosses_sign a.x c.x b.x k)
@@ -95,9 +94,9 @@ module _ (a b c d : Point64) (h : AllLimited a b c d) where
       (right_product (b.y -ℤ a.y) (d.x -ℤ c.x) (d.y -ℤ c.y) (b.x -ℤ a.x) z ∙ ap (λ (u : ℤ). u *ℤ (d.y -ℤ c.y)) (neg_difference b.x a.x)) determinant_is)
 
   -- ---- an edge along y = c.y
-  pub level_at : d.y ≡ c.y → 0 < nat_abs (d.x -ℤ c.x) → Crosses a.y c.y b.y
-      → intersection a b c d ≡ Met (part_way a b (nat_abs (a.y -ℤ c.y)) (nat_abs (a.y -ℤ b.y)))
-  level_at e w k =
+  pub level_near : d.y ≡ c.y → 0 < nat_abs (d.x -ℤ c.x) → Crosses a.y c.y b.y
+      → Found a b (nat_abs (a.y -ℤ c.y)) (nat_abs (a.y -ℤ b.y)) (intersection a b c d)
+  level_near e w k =
       let z : d.y -ℤ c.y ≡ pos 0 = none d.y c.y e in
       crossed_at (a.y -ℤ c.y) (a.y -ℤ b.y) (neg_ℤ (d.x -ℤ c.x)) k.before (subst (λ (n : ℕ). 0 < n) (sym (size_neg (d.x -ℤ c.x))) w) (crosses_lt a.y c.y b.y k)
       (difference_small a.y b.y h.start.down h.end.down) (crosses_sign a.y c.y b.y k)
@@ -107,7 +106,4 @@ module _ (a b c d : Point64) (h : AllLimited a b c d) where
       (level_product (b.y -ℤ a.y) (d.x -ℤ c.x) (d.y -ℤ c.y) (b.x -ℤ a.x) z ∙ ap (λ (u : ℤ). u *ℤ neg_ℤ (d.x -ℤ c.x)) (neg_difference b.y a.y)) determinant_is)
 
 pub near_crossing : (a b c d : Point64) → AllLimited a b c d → NearCrossing a b c d (intersection a b c d)
-near_crossing a b c d h = record {
-  upright = λ e w k. near a b c d h _ _ (crosses_lt a.x c.x b.x k) (upright_at a b c d h e w k);
-  level = λ e w k. near a b c d h _ _ (crosses_lt a.y c.y b.y k) (level_at a b c d h e w k);
-}
+near_crossing a b c d h = record { upright = upright_near a b c d h; level = level_near a b c d h }

@@ -4,20 +4,18 @@ use mathlib.Core.Bool.{Bool, true, false, cond, not, beq}
 use mathlib.Core.Logic.{◌⊎◌, inl, inr}
 use mathlib.Core.List.{[], ◌∷◌}
 use Prim.Native.Nat.{ℕ, zero, suc, ◌*◌, ◌<◌, suc-le-suc, zero-le}
-use native.Mathlib.Nat.{lt_of_le_of_lt}
 use native.Mathlib.Omega.{arith}
 use lib.IntN.{ℤ, pos, negsuc, nat_abs, ◌+ℤ◌, ◌-ℤ◌, ◌*ℤ◌, +ℤ_invr, *ℤ-zero, +ℤ_idr}
 use lib.Signed.{lt_z, ◌≤ℤ◌, ◌<ℤ◌, <ℤ_irrefl}
-use Rattle.integers.specs.Order.{zint, size_up, size_down}
+use Rattle.integers.specs.Order.{zint}
 use Rattle.integers.specs.Laws.{ -ℤ_zero}
 use Rattle.integers.specs.Sign.{mul_le_r}
 use Rattle.integers.specs.Tests.{eq_z, ztest, ltZ_true, ltZ_sub, ltZ_sub', lt_or_le}
 use Rattle.integers.specs.Ring.{var, ◌⊕◌, ◌⊖◌, ◌⊗◌, ring}
 use Rattle.rounding.specs.Coordinate.{exact, Near, Crosses, is_negative}
-use Rattle.rounding.proofs.Exact.{none, crosses_lt}
+use Rattle.rounding.proofs.Exact.{none}
 use Rattle.rounding.proofs.Along.{at_least, at_most}
 use Rattle.theorems.specs.Demand.{Between}
-use Rattle.theorems.proofs.Held.{Ends}
 use Rattle.theorems.proofs.Tests.{never}
 
 -- ---- signs
@@ -53,7 +51,7 @@ sgn_facts ab cd = go (lt_z cd ab) refl (lt_z ab cd) refl
     go false p false q e = never refl e
 
 -- two signs that differ
-differ : (x y s t : Bool) → beq x y ≡ false → x ≡ not s → y ≡ not t → s ≡ not t
+pub differ : (x y s t : Bool) → beq x y ≡ false → x ≡ not s → y ≡ not t → s ≡ not t
 differ true true s t e f g = never refl e
 differ true false s true e f g = flip s f
   where
@@ -82,7 +80,7 @@ exact_start y1 y2 d = ap (λ (z : ℤ). y1 *ℤ pos d +ℤ z) (*ℤ-zero (y2 -�
 exact_end : (y1 y2 : ℤ) (d : ℕ) → exact y1 y2 d d ≡ y2 *ℤ pos d
 exact_end y1 y2 d = ring (y1 ∷ y2 ∷ pos d ∷ []) (var 0 ⊗ var 2 ⊕ (var 1 ⊖ var 0) ⊗ var 2) (var 1 ⊗ var 2) tt
 
-pub near_self : (z : ℤ) (d : ℕ) → 0 < d → Near z (z *ℤ pos d) d
+near_self : (z : ℤ) (d : ℕ) → 0 < d → Near z (z *ℤ pos d) d
 unfolding Near
 near_self z d h = subst (λ (u : ℤ). nat_abs u * 33554432 < d * 33554433) (sym (+ℤ_invr (z *ℤ pos d))) (omega arith)
 
@@ -92,12 +90,6 @@ pub record Crossed (x1 y1 x2 y2 x3 lo hi : ℤ) : Type 0 where
   pub crosses : Between x1 x3 x2
   pub not_before : (lo *ℤ pos (nat_abs (x1 -ℤ x2))) ≤ℤ exact y1 y2 (nat_abs (x1 -ℤ x3)) (nat_abs (x1 -ℤ x2))
   pub not_behind : exact y1 y2 (nat_abs (x1 -ℤ x3)) (nat_abs (x1 -ℤ x2)) ≤ℤ (hi *ℤ pos (nat_abs (x1 -ℤ x2)))
-
--- the same, strictly: neither an end of the segment nor one of the edge is the crossing
-pub record Passed (x1 y1 x2 y2 x3 lo hi : ℤ) : Type 0 where
-  pub crosses : Crosses x1 x3 x2
-  pub behind_low : (lo *ℤ pos (nat_abs (x1 -ℤ x2))) <ℤ exact y1 y2 (nat_abs (x1 -ℤ x3)) (nat_abs (x1 -ℤ x2))
-  pub before_high : exact y1 y2 (nat_abs (x1 -ℤ x3)) (nat_abs (x1 -ℤ x2)) <ℤ (hi *ℤ pos (nat_abs (x1 -ℤ x2)))
 
 -- and (x, y) is near that crossing
 pub record NearBy (x1 y1 x2 y2 x3 lo hi x y : ℤ) : Type 0 where
@@ -172,71 +164,22 @@ crosses_between a c b k = go (is_negative (a -ℤ c)) refl
     go true e = inl (at_most a c e, at_most c b (sym k.alike ∙ e))
     go false e = inr (at_least c b (sym k.alike ∙ e), at_least a c e)
 
-pub passed_crossed : {x1 y1 x2 y2 x3 lo hi : ℤ} → Passed x1 y1 x2 y2 x3 lo hi → Crossed x1 y1 x2 y2 x3 lo hi
-passed_crossed {x1} {x2 = x2} {x3 = x3} k = record {
-  extends = lt_of_le_of_lt zero-le (crosses_lt x1 x3 x2 k.crosses);
-  crosses = crosses_between x1 x3 x2 k.crosses;
-  not_before = omega (zint, k.behind_low);
-  not_behind = omega (zint, k.before_high);
-}
+-- the edge's ends, in either order
+abbrev pub Ends : ℤ → ℤ → ℤ → ℤ → Type 0
+Ends c d lo hi = ((c ≡ lo) × (d ≡ hi)) ⊎ ((c ≡ hi) × (d ≡ lo))
 
--- The point (x3, y3) is on the segment, and the line x3 within its extent: the exact crossing with that line is the point.
-pub exact_on : (x1 y1 x2 y2 x3 y3 : ℤ) → Between x1 x3 x2 → (x1 -ℤ x3) *ℤ (y2 -ℤ y1) ≡ (y1 -ℤ y3) *ℤ (x2 -ℤ x1) → exact y1 y2 (nat_abs (x1 -ℤ x3)) (nat_abs (x1 -ℤ x2)) ≡ y3 *ℤ pos (nat_abs (x1 -ℤ x2))
-exact_on x1 y1 x2 y2 x3 y3 (inl h) e =
-    let p : x1 ≤ℤ x3 = h.0 in
-    let q : x3 ≤ℤ x2 = h.1 in
-    (λ i. y1 *ℤ size_down x1 x2 (omega zint) i +ℤ (y2 -ℤ y1) *ℤ size_down x1 x3 p i)
-    ∙ ring (x1 ∷ y1 ∷ x2 ∷ y2 ∷ x3 ∷ []) (var 1 ⊗ (var 2 ⊖ var 0) ⊕ (var 3 ⊖ var 1) ⊗ (var 4 ⊖ var 0)) (var 1 ⊗ (var 2 ⊖ var 0) ⊖ (var 0 ⊖ var 4) ⊗ (var 3 ⊖ var 1)) tt
-    ∙ ap (λ (z : ℤ). y1 *ℤ (x2 -ℤ x1) -ℤ z) e
-    ∙ ring (x1 ∷ y1 ∷ x2 ∷ y3 ∷ []) (var 1 ⊗ (var 2 ⊖ var 0) ⊖ (var 1 ⊖ var 3) ⊗ (var 2 ⊖ var 0)) (var 3 ⊗ (var 2 ⊖ var 0)) tt
-    ∙ ap (λ (z : ℤ). y3 *ℤ z) (sym (size_down x1 x2 (omega zint)))
-exact_on x1 y1 x2 y2 x3 y3 (inr h) e =
-    let p : x2 ≤ℤ x3 = h.0 in
-    let q : x3 ≤ℤ x1 = h.1 in
-    (λ i. y1 *ℤ size_up x1 x2 (omega zint) i +ℤ (y2 -ℤ y1) *ℤ size_up x1 x3 q i)
-    ∙ ring (x1 ∷ y1 ∷ x2 ∷ y2 ∷ x3 ∷ []) (var 1 ⊗ (var 0 ⊖ var 2) ⊕ (var 3 ⊖ var 1) ⊗ (var 0 ⊖ var 4)) (var 1 ⊗ (var 0 ⊖ var 2) ⊕ (var 0 ⊖ var 4) ⊗ (var 3 ⊖ var 1)) tt
-    ∙ ap (λ (z : ℤ). y1 *ℤ (x1 -ℤ x2) +ℤ z) e
-    ∙ ring (x1 ∷ y1 ∷ x2 ∷ y3 ∷ []) (var 1 ⊗ (var 0 ⊖ var 2) ⊕ (var 1 ⊖ var 3) ⊗ (var 2 ⊖ var 0)) (var 3 ⊗ (var 0 ⊖ var 2)) tt
-    ∙ ap (λ (z : ℤ). y3 *ℤ z) (sym (size_up x1 x2 (omega zint)))
-
--- across the edge the exact crossing is on the edge's line
-pub exact_across : (a m b : ℤ) → Between a m b → exact a b (nat_abs (a -ℤ m)) (nat_abs (a -ℤ b)) ≡ m *ℤ pos (nat_abs (a -ℤ b))
-exact_across a m b h = exact_on a a b b m m h refl
-
--- an end of the edge is on the segment, which passes the edge's line
-pub at_edge_end : (x1 y1 x2 y2 x3 x y lo hi : ℤ) → Crosses x1 x3 x2 → x ≡ x3 → (x1 -ℤ x) *ℤ (y2 -ℤ y1) ≡ (y1 -ℤ y) *ℤ (x2 -ℤ x1) → lo ≤ℤ y → y ≤ℤ hi → NearBy x1 y1 x2 y2 x3 lo hi x y
-at_edge_end x1 y1 x2 y2 x3 x y lo hi k o e l m =
-    let d = nat_abs (x1 -ℤ x2) in
-    let D : 0 < d = lt_of_le_of_lt zero-le (crosses_lt x1 x3 x2 k) in
-    let B = crosses_between x1 x3 x2 k in
-    let E = exact_on x1 y1 x2 y2 x3 y B (subst (λ (u : ℤ). (x1 -ℤ u) *ℤ (y2 -ℤ y1) ≡ (y1 -ℤ y) *ℤ (x2 -ℤ x1)) o e) in
-    record {
-      crossed = record {
-        extends = D;
-        crosses = B;
-        not_before = subst (λ (u : ℤ). (lo *ℤ pos d) ≤ℤ u) (sym E) (scaled lo y d l);
-        not_behind = subst (λ (u : ℤ). u ≤ℤ (hi *ℤ pos d)) (sym E) (scaled y hi d m);
-      };
-      near_across = subst (λ (u : ℤ). Near u (exact x1 x2 (nat_abs (x1 -ℤ x3)) d) d) (sym o) (subst (λ (u : ℤ). Near x3 u d) (sym (exact_across x1 x3 x2 B)) (near_self x3 d D));
-      near_along = subst (λ (u : ℤ). Near y u d) (sym E) (near_self y d D);
-    }
-
-pub ends_within : (v w lo hi : ℤ) → lo <ℤ hi → Ends v w lo hi → ((lo ≤ℤ v) × (v ≤ℤ hi)) × ((lo ≤ℤ w) × (w ≤ℤ hi))
-ends_within v w lo hi l (inl e) = let a = e.0 in let b = e.1 in ((omega zint, omega zint), (omega zint, omega zint))
-ends_within v w lo hi l (inr e) = let a = e.0 in let b = e.1 in ((omega zint, omega zint), (omega zint, omega zint))
-
-pub ordered : (u v w lo hi : ℤ) (d : ℕ) → lo <ℤ hi → Ends v w lo hi → (((v *ℤ pos d) <ℤ u) × (u <ℤ (w *ℤ pos d))) ⊎ (((w *ℤ pos d) <ℤ u) × (u <ℤ (v *ℤ pos d)))
-    → ((lo *ℤ pos d) <ℤ u) × (u <ℤ (hi *ℤ pos d))
-ordered u v w lo hi d l (inl e) (inl h) = (subst (λ (z : ℤ). (z *ℤ pos d) <ℤ u) e.0 h.0, subst (λ (z : ℤ). u <ℤ (z *ℤ pos d)) e.1 h.1)
-ordered u v w lo hi d l (inr e) (inr h) = (subst (λ (z : ℤ). (z *ℤ pos d) <ℤ u) e.1 h.0, subst (λ (z : ℤ). u <ℤ (z *ℤ pos d)) e.0 h.1)
+pub ordered : (u v w lo hi : ℤ) (d : ℕ) → lo <ℤ hi → Ends v w lo hi → (((v *ℤ pos d) ≤ℤ u) × (u ≤ℤ (w *ℤ pos d))) ⊎ (((w *ℤ pos d) ≤ℤ u) × (u ≤ℤ (v *ℤ pos d)))
+    → ((lo *ℤ pos d) ≤ℤ u) × (u ≤ℤ (hi *ℤ pos d))
+ordered u v w lo hi d l (inl e) (inl h) = (subst (λ (z : ℤ). (z *ℤ pos d) ≤ℤ u) e.0 h.0, subst (λ (z : ℤ). u ≤ℤ (z *ℤ pos d)) e.1 h.1)
+ordered u v w lo hi d l (inr e) (inr h) = (subst (λ (z : ℤ). (z *ℤ pos d) ≤ℤ u) e.1 h.0, subst (λ (z : ℤ). u ≤ℤ (z *ℤ pos d)) e.0 h.1)
 ordered u v w lo hi d l (inl e) (inr h) =
-    let a = subst (λ (z : ℤ). (z *ℤ pos d) <ℤ u) e.1 h.0 in
-    let b = subst (λ (z : ℤ). u <ℤ (z *ℤ pos d)) e.0 h.1 in
+    let a = subst (λ (z : ℤ). (z *ℤ pos d) ≤ℤ u) e.1 h.0 in
+    let b = subst (λ (z : ℤ). u ≤ℤ (z *ℤ pos d)) e.0 h.1 in
     let c = scaled lo hi d (omega zint) in
     (omega zint, omega zint)
 ordered u v w lo hi d l (inr e) (inl h) =
-    let a = subst (λ (z : ℤ). (z *ℤ pos d) <ℤ u) e.0 h.0 in
-    let b = subst (λ (z : ℤ). u <ℤ (z *ℤ pos d)) e.1 h.1 in
+    let a = subst (λ (z : ℤ). (z *ℤ pos d) ≤ℤ u) e.0 h.0 in
+    let b = subst (λ (z : ℤ). u ≤ℤ (z *ℤ pos d)) e.1 h.1 in
     let c = scaled lo hi d (omega zint) in
     (omega zint, omega zint)
 
@@ -262,23 +205,24 @@ sgn_facts' ab cd = go (lt_z cd ab) refl (lt_z ab cd) refl
     go false p true q e = let f = pos_facts (cd -ℤ ab) (ltZ_true (ltZ_sub ab cd ∙ q)) in (f.0, sym f.1)
     go false p false q e = never refl e
 
--- what `0 < sign` says of a number that is negative or not: of the difference of the two products, or, where it is not the plain one, of the difference turned round
-abbrev pub told : Bool → Bool → Bool
-told plain negative = cond plain (not negative) negative
-
--- two signs that differ
-pub unlike : (plain x y s t : Bool) → beq x y ≡ false → x ≡ told plain s → y ≡ told plain t → s ≡ not t
-unlike true x y s t e f g = differ x y s t e f g
-unlike false true true s t e f g = never refl e
-unlike false true false s t e f g = sym f ∙ ap not g
-unlike false false true s t e f g = sym f ∙ ap not g
-unlike false false false s t e f g = never refl e
-
-pub unlike_back : (plain x y s t : Bool) → beq x y ≡ false → x ≡ told plain s → y ≡ told plain t → t ≡ not s
-unlike_back plain x y s t e f g = swap s t (unlike plain x y s t e f g)
+-- the second sign is not the first
+pub differ_back : (x y s t : Bool) → beq x y ≡ false → x ≡ not s → y ≡ not t → t ≡ not s
+differ_back x y s t e f g = swap s t (differ x y s t e f g)
   where
     swap : (s t : Bool) → s ≡ not t → t ≡ not s
     swap true true e = never refl e
     swap true false e = refl
     swap false true e = refl
     swap false false e = never e refl
+
+pub unlike_plain : (x y s t : Bool) → beq x y ≡ false → x ≡ s → y ≡ t → t ≡ not s
+unlike_plain true true s t e f g = never refl e
+unlike_plain true false s t e f g = sym g ∙ ap not f
+unlike_plain false true s t e f g = sym g ∙ ap not f
+unlike_plain false false s t e f g = never refl e
+
+pub unlike_first : (x y s t : Bool) → beq x y ≡ false → x ≡ s → y ≡ t → s ≡ not t
+unlike_first true true s t e f g = never refl e
+unlike_first true false s t e f g = sym f ∙ ap not g
+unlike_first false true s t e f g = sym f ∙ ap not g
+unlike_first false false s t e f g = never refl e

@@ -26,8 +26,7 @@ use Rattle.plane.specs.Intersection.{get_intersection}
 use Rattle.reference.specs.Walk.{next_side, pt_before}
 use Rattle.plane.specs.Locations.{is_inside}
 use Rattle.theorems.proofs.Holds.{All, all_at}
-use Rattle.theorems.proofs.Demand.{points_limited}
-use Rattle.theorems.proofs.GeoTell.{proper_rect}
+use Rattle.theorems.proofs.Demand.{points_limited, not_empty_order}
 use Rattle.theorems.proofs.GeoPlane.{on_left, on_top, on_right, on_bottom, Proper}
 use Rattle.theorems.proofs.GeoSearch.{Inner, Outside, enter}
 use Rattle.theorems.proofs.Bridge.{told, search_told}
@@ -90,7 +89,8 @@ before_limited path l k h = go (ltb 0 k)
 -- Where the walk comes from a point on or beyond a side to one strictly inside, its search finds a crossing.
 pub entry_found : (r : Rect64) (coords : List ℤ) → T (rect_in_limit r) → T (all_in_limit coords) → is_empty r ≡ false → EntryFound r (points_of coords)
 entry_found r coords hr hc he s k l i b n e m =
+    let o = not_empty_order r he in
     let lim = points_limited coords hc in
     let path = points_of coords in
-    search_enters r (rect_limited r hr) (proper_rect r he) (pt_at path k) (pt_before path k) (all_at Limited path k origin lim l) (before_limited path lim k l)
+    search_enters r (rect_limited r hr) (record { wide = o.0; high = o.1 }) (pt_at path k) (pt_before path k) (all_at Limited path k origin lim l) (before_limited path lim k l)
     (strictly r s (pt_at path k) i n e) (outside r s (pt_before path k) b) m

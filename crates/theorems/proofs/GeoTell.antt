@@ -1,20 +1,17 @@
--- Tests and what they decide: signs of multiples, a number between two others, the two tests of `on`, a rectangle that is not empty.
+-- Tests and what they decide: signs of multiples, a number between two others, the two tests of `on`.
 use mathlib.Core.Path.{◌≡◌, refl, sym, ◌∙◌, ap, subst}
 use mathlib.Core.Bool.{Bool, true, false, cond, ◌||◌}
 use mathlib.Core.List.{[], ◌∷◌}
 use mathlib.Core.Logic.{◌⊎◌, inl, inr}
 use lib.Dec.{T}
 use lib.IntN.{ℤ, pos, negsuc, ◌+ℤ◌, ◌-ℤ◌, ◌*ℤ◌, *ℤ-zero}
-use lib.Signed.{lt_z, le_z, ◌≤ℤ◌, ◌<ℤ◌}
+use lib.Signed.{lt_z, ◌≤ℤ◌, ◌<ℤ◌}
 use Rattle.integers.specs.Order.{zint, sub_pn, eq→}
-use Rattle.integers.specs.Tests.{tri, lt_or_le, eq_z, leZ_false, lt_ltZ, le_ltZ, eq_eqZ, ne_eqZ}
+use Rattle.integers.specs.Tests.{tri, lt_or_le, eq_z, lt_ltZ, le_ltZ, eq_eqZ, ne_eqZ}
 use Rattle.integers.specs.Sign.{pos_pos, pos_neg, neg_pos, neg_neg}
 use Rattle.integers.specs.Ring.{Ex, con, v0, v1, v2, v3, ◌⊕◌, ◌⊗◌}
 use Rattle.integers.specs.Certify.{◌≼◌, ◌≺◌, ◌≈◌, hyp, times, ◌⊞◌, ◌⊠◌, certify_no}
-use Rattle.plane.specs.declared.rect.Rect64.{Rect64}
-use Rattle.plane.specs.Rectangle.{is_empty}
-use Rattle.theorems.proofs.GeoPlane.{sign, zero?, up?, same, Proper}
-use Rattle.theorems.proofs.Tests.{neither}
+use Rattle.theorems.proofs.GeoPlane.{sign, zero?, up?, same}
 
 -- b is the answer to the question P
 abbrev pub Decides : Bool → Type 0 → Type 0
@@ -31,9 +28,6 @@ is_yes (inr h) p = absurd (h.1 p)
 pub decided : {b c : Bool} {P Q : Type 0} → c ≡ b → (P → Q) → (Q → P) → Decides b P → Decides c Q
 decided e f g (inl h) = inl (e ∙ h.0, f h.1)
 decided e f g (inr h) = inr (e ∙ h.0, λ q. h.1 (g q))
-
-pub proper_rect : (r : Rect64) → is_empty r ≡ false → Proper r
-proper_rect r e = let n = neither (le_z r.right r.left) (le_z r.bottom r.top) e in record { wide = leZ_false n.0; high = leZ_false n.1 }
 
 abbrev pub NonZero : ℤ → Type 0
 NonZero e = (pos 0 <ℤ e) ⊎ (e <ℤ pos 0)

@@ -8,12 +8,8 @@ pub mod Returned
 pub mod OnEdge
 pub mod PointsOpen
 pub mod Sources
-pub mod Held
 pub mod CrossingSigns
 pub mod Crossings
-pub mod EachEdge
-pub mod FoundOnEdge
-pub mod AlongStays
 pub mod Demand
 pub mod Unlimited
 pub mod Ends

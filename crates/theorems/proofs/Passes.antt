@@ -29,8 +29,7 @@ use Rattle.reference.specs.Walk.{Walk, nothing_yet, add, push_start_loc, add_cor
 use Rattle.reference.specs.Lines.{line_through, line_cross, line_from, line_passes}
 use Rattle.theorems.specs.Bounds.{WalkEnds, LineWalkEnds}
 use Rattle.theorems.proofs.Holds.{Holds, held, bind, either, by_search, All, all_at, weaker, anything, holds_ok, by_second_search}
-use Rattle.theorems.proofs.Demand.{points_limited}
-use Rattle.theorems.proofs.GeoTell.{proper_rect}
+use Rattle.theorems.proofs.Demand.{points_limited, not_empty_order}
 use Rattle.theorems.proofs.GeoPlane.{Side, on_left, on_top, on_right, on_bottom, loc, Proper}
 use Rattle.theorems.proofs.GeoWalk.{located, on_edge, on_left, on_right, on_top, on_bottom}
 use Rattle.theorems.proofs.GeoProgress.{In, in_side, Stop, enters, passes as crosses, leaves, located_in, same_refl, edge_closed}
@@ -283,8 +282,9 @@ module _ (full : ℕ → Bool) (r : Rect64) (path : List Point64) where
 -- ---- the two statements
 pub walk_ends : WalkEnds
 walk_ends full rect coords l s hr hc he e =
+    let o = not_empty_order rect he in
     let path = points_of coords in
-    let k : Proper rect = proper_rect rect he in
+    let k : Proper rect = record { wide = o.0; high = o.1 } in
     holds_ok {Q = λ (t : State). length path ≤ t.i} _ s
     (passes_end full rect path (rect_limited rect hr) k (points_limited coords hc) (length path + 1) (record { walk = nothing_yet; i = 0; loc = l; crossing_loc = Inside; first_cross = Inside }) (start_one full rect path 0 l)) e
 

@@ -1,10 +1,15 @@
--- Where a search for a crossing finds something: exactly where one of the sides that it tries has an exact crossing with the segment.
+-- What a search for a crossing finds. A found point is a corner of the rectangle or is near an exact crossing of the segment with an edge,
+-- and it lies at most one unit outside. A search finds something exactly where one of the sides that it tries has an exact crossing with the segment.
 -- Rectangle and segment are within the coordinate limit, and the rectangle is not empty. Assumes nothing.
 use mathlib.Core.Path.{◌≡◌, refl, sym, ap, ◌∙◌, subst}
 use mathlib.Core.Bool.{Bool, true, false}
-use Prim.Native.Nat.{ℕ}
+use mathlib.Core.List.{[], ◌∷◌}
+use Prim.Native.Nat.{ℕ, ◌≤◌}
 use native.Mathlib.Omega.{arith}
+use lib.IntN.{ℤ, pos, nat_abs, ◌+ℤ◌, ◌-ℤ◌}
+use lib.Signed.{◌≤ℤ◌}
 use mathlib.Core.Logic.{◌⊎◌, inl, inr, ⊎_elim}
+use Rattle.integers.specs.Order.{zint, add_pn, sub_pn, abs_pn, parts}
 use Rattle.plane.specs.declared.point.Point64.{Point64}
 use Rattle.plane.specs.declared.rect.Rect64.{Rect64}
 use Rattle.plane.specs.declared.location.Location.{Location}
@@ -16,15 +21,45 @@ use Rattle.plane.specs.Rectangle.{is_empty, beyond}
 use Rattle.plane.specs.Basics.{if◌then◌else◌}
 use Rattle.plane.specs.Locations.{is_inside, lower, upper}
 use Rattle.plane.specs.Intersection.{edge_intersection, ◌or_else◌, side_intersection, get_intersection}
-use Rattle.theorems.specs.Demand.{ExactCrossing}
+use Rattle.theorems.specs.Demand.{ExactCrossing, AtMostOneOutside, onward, corner_point, crossing}
 use Rattle.theorems.specs.Search.{Tried, own, low, up, any, Finds, SearchFinds, SearchExact}
+use Rattle.theorems.proofs.Demand.{search_hits, not_empty_order, outside}
+use Rattle.theorems.proofs.Sources as sources
+use Rattle.theorems.proofs.Sources.{at_corner, at_crossing}
 use Rattle.theorems.proofs.GeoPlane.{Hit, none, known, proper, hit?, Side, on_left, on_top, on_right, on_bottom, loc, edge, Proper}
-use Rattle.theorems.proofs.GeoTell.{yes_of, is_yes, proper_rect}
+use Rattle.theorems.proofs.GeoTell.{yes_of, is_yes}
 use Rattle.theorems.proofs.GeoSides.{met_decides}
 use Rattle.theorems.proofs.GeoExact.{meets_exact, exact_meets}
 use Rattle.theorems.proofs.Bridge.{hit, edge_is}
 use Rattle.theorems.proofs.Tests.{never}
 
+module _ (r : Rect64) (lr : LimitedRect r) (not_empty : is_empty r ≡ false) (a b : Point64) (la : Limited a) (lb : Limited b) where
+  -- a corner, or less than 1 + 1/33,554,432 unit on each axis from an exact crossing of the segment with an edge
+  pub found_source : (loc : Location) (q : Point64) (side : Location) → get_intersection r a b loc ≡ Found q side → sources.Hit r a b q
+  found_source = let o = not_empty_order r not_empty in search_hits r lr o.0 o.1 a b la lb
+
+  -- at most one unit outside the rectangle
+  pub found_outside : (loc : Location) (q : Point64) (side : Location) → get_intersection r a b loc ≡ Found q side → AtMostOneOutside r q
+  found_outside loc q side e = near (found_source loc q side e)
+    where
+      near : sources.Hit r a b q → AtMostOneOutside r q
+      near (at_corner k l h) = let o = not_empty_order r not_empty in outside r o.0 o.1 {closed = false} {path = []} q (corner_point k l h)
+      near (at_crossing s x n) = let o = not_empty_order r not_empty in outside r o.0 o.1 {closed = false} {path = a ∷ b ∷ []} q (crossing a b (onward 0 (omega arith)) s x n)
+
+-- a number at most one past numbers within the limit
+reach : (a z b : ℤ) → nat_abs a ≤ 33554432 → nat_abs b ≤ 33554432 → (a -ℤ pos 1) ≤ℤ z → z ≤ℤ (b +ℤ pos 1) → nat_abs z ≤ 33554433
+reach a z b h k u v =
+    ⊎_elim (λ e. omega (zint, abs_pn a, abs_pn z, abs_pn b, sub_pn a (pos 1), add_pn b (pos 1)))
+    (λ e. omega (zint, abs_pn a, abs_pn z, abs_pn b, sub_pn a (pos 1), add_pn b (pos 1))) (parts z)
+
+-- so its coordinates are at most one past the limit
+pub outside_across : {r : Rect64} {q : Point64} → LimitedRect r → AtMostOneOutside r q → nat_abs q.x ≤ 33554433
+outside_across {r} {q} lr o = reach r.left q.x r.right lr.left lr.right o.left o.right
+
+pub outside_down : {r : Rect64} {q : Point64} → LimitedRect r → AtMostOneOutside r q → nat_abs q.y ≤ 33554433
+outside_down {r} {q} lr o = reach r.top q.y r.bottom lr.top lr.bottom o.top o.bottom
+
+-- ---- where it finds something
 clash : {W : Type 0} {q : Point64} {s : Location} {x : Search} → x ≡ Missed → x ≡ Found q s → W
 clash e f = let z : ◌≡◌ {A = ℕ} 0 1 = cc in absurd (omega arith)
 
@@ -49,24 +84,24 @@ guard_found true x e = (refl, e)
 guard_found false x e = clash refl e
 
 module _ (r : Rect64) (lr : LimitedRect r) (not_empty : is_empty r ≡ false) (p q : Point64) (lp : Limited p) (lq : Limited q) where
-  k : Proper r
-  k = proper_rect r not_empty
+  proper_rect : Proper r
+  proper_rect = let o = not_empty_order r not_empty in record { wide = o.0; high = o.1 }
 
   side_missed : (s : Side) → edge_intersection r (loc s) p q ≡ Missed → ExactCrossing r (loc s) p q → ⊥
-  side_missed s e x = go (edge r s p q) (is_yes (met_decides r k s p q) (exact_meets r p q s x)) (sym (edge_is r lr k p q lp lq s) ∙ e)
+  side_missed s e x = go (edge r s p q) (is_yes (met_decides r proper_rect s p q) (exact_meets r p q s x)) (sym (edge_is r lr proper_rect p q lp lq s) ∙ e)
     where
-      go : (h : Hit) → hit? h ≡ true → hit r lr k p q lp lq s h ≡ Missed → ⊥
+      go : (h : Hit) → hit? h ≡ true → hit r lr proper_rect p q lp lq s h ≡ Missed → ⊥
       go none t e = never t refl
       go (known w) t e = clash e refl
       go proper t e = clash e refl
 
   side_exact : (s : Side) {z : Point64} {t : Location} → edge_intersection r (loc s) p q ≡ Found z t → (t ≡ loc s) × ExactCrossing r (loc s) p q
-  side_exact s {z} {t} e = go (edge r s p q) refl (sym (edge_is r lr k p q lp lq s) ∙ e)
+  side_exact s {z} {t} e = go (edge r s p q) refl (sym (edge_is r lr proper_rect p q lp lq s) ∙ e)
     where
       met_it : (h : Hit) → edge r s p q ≡ h → hit? h ≡ true → ExactCrossing r (loc s) p q
-      met_it h f g = meets_exact r p q s (yes_of (met_decides r k s p q) (ap hit? f ∙ g))
+      met_it h f g = meets_exact r p q s (yes_of (met_decides r proper_rect s p q) (ap hit? f ∙ g))
 
-      go : (h : Hit) → edge r s p q ≡ h → hit r lr k p q lp lq s h ≡ Found z t → (t ≡ loc s) × ExactCrossing r (loc s) p q
+      go : (h : Hit) → edge r s p q ≡ h → hit r lr proper_rect p q lp lq s h ≡ Found z t → (t ≡ loc s) × ExactCrossing r (loc s) p q
       go none f e = clash refl e
       go (known w) f e = (same_side refl e, met_it (known w) f refl)
       go proper f e = (same_side refl e, met_it proper f refl)

@@ -17,8 +17,7 @@ use Rattle.reference.specs.Walk.{second_search}
 use Rattle.theorems.specs.Walks.{given, point_before}
 use Rattle.theorems.specs.SecondSearch.{FindsBack, SecondSearchFinds}
 use Rattle.theorems.proofs.Holds.{all_at}
-use Rattle.theorems.proofs.Demand.{points_limited}
-use Rattle.theorems.proofs.GeoTell.{proper_rect}
+use Rattle.theorems.proofs.Demand.{points_limited, not_empty_order}
 use Rattle.theorems.proofs.GeoPlane.{loc, Proper}
 use Rattle.theorems.proofs.GeoSearch.{Finds, FindsNone, finds_or_none, back}
 use Rattle.theorems.proofs.GeoProgress.{In, side_in, Stop, enters, passes as crosses, leaves}
@@ -53,9 +52,10 @@ module _ (r : Rect64) (lr : LimitedRect r) (k : Proper r) (p q : Point64) (lp : 
 
 pub second_search_finds : SecondSearchFinds
 second_search_finds closed full rect coords hr hc he =
+    let o = not_empty_order rect he in
     let path = points_of coords in
     let lr = rect_limited rect hr in
-    let k : Proper rect = proper_rect rect he in
+    let k : Proper rect = record { wide = o.0; high = o.1 } in
     let lim = points_limited coords hc in
     in_every_pass full rect path lr k lim closed (λ s nx. FindsBack rect (given closed s).loc nx.loc (point_before path closed nx.i) (pt_at path nx.i))
     (λ s nx R i l. finds_back rect lr k (pt_at path nx.i) (point_before path closed nx.i) (all_at Limited path nx.i origin lim l) (before_within full rect path lr k lim closed nx.i l) (given closed s).loc nx.loc (R.stopped l) i)

@@ -15,13 +15,13 @@ use Rattle.plane.specs.declared.location.Location.{Location}
 use Rattle.plane.specs.declared.location.Location.TheVariants.{Left, Top, Right, Bottom, Inside}
 use Rattle.plane.specs.declared.crossing.Search.TheVariants.{Found}
 use Rattle.plane.specs.Points.{pt_at, origin}
-use Rattle.plane.specs.Rectangle.{get_location, is_empty, intersects, contains_rect, get_bounds_path, corner}
+use Rattle.plane.specs.Rectangle.{as_path, get_location, is_empty, intersects, contains_rect, get_bounds_path, corner}
 use Rattle.plane.specs.Intersection.{get_intersection}
 use Rattle.reference.specs.Walk.{pt_before, walk_closed}
 use Rattle.plane.specs.Locations.{is_inside}
 use Rattle.reference.specs.Clip.{execute}
 use Rattle.reference.specs.Lines.{execute_lines}
-use Rattle.theorems.specs.Demand.{ExactCrossing, NearTo, OnEdge, InOrOn, Segment, onward, closing, turned, Source, input_point, corner_point, crossing}
+use Rattle.theorems.specs.Demand.{ExactCrossing, NearTo, InOrOn, Segment, onward, closing, turned, Source, input_point, corner_point, crossing}
 use Rattle.theorems.proofs.Holds.{Holds, held, bind, holds_both, either, All, all_of}
 use Rattle.theorems.proofs.Points.{WithinSides, all_keeping, walked_kept}
 use Rattle.theorems.proofs.Returned.{EnteredWithPoints, walked_entered, AllPaths, KeptPaths, clip_kept}
@@ -29,14 +29,13 @@ use Rattle.theorems.proofs.OnEdge.{on_edge, contained}
 use Rattle.theorems.proofs.PointsOpen.{walk_open_kept, lines_kept}
 use Rattle.theorems.proofs.Tests.{never, true_of}
 
--- what a search finds on the segment from a to b: a point on an edge, near the exact crossing there
-pub record Hit (r : Rect64) (a b q : Point64) (t : Location) : Type 0 where
-  pub exact : ExactCrossing r t a b
-  pub on : OnEdge r t q
-  pub near : NearTo r t a b q
+-- what a search finds on the segment from a to b: a corner, or a point near an exact crossing
+pub data Hit (r : Rect64) (a b q : Point64) : Type 0 where
+  at_corner : (k : ℕ) → k < 4 → q ≡ pt_at (as_path r) k → Hit r a b q
+  at_crossing : (s : Location) → ExactCrossing r s a b → NearTo r s a b q → Hit r a b q
 
 abbrev pub Searches : Rect64 → Point64 → Point64 → Type 0
-Searches r a b = (s : Location) (q : Point64) (t : Location) → get_intersection r a b s ≡ Found q t → Hit r a b q t
+Searches r a b = (s : Location) (q : Point64) (t : Location) → get_intersection r a b s ≡ Found q t → Hit r a b q
 
 in_or_on : (r : Rect64) (p : Point64) → WithinSides r p → InOrOn r p
 in_or_on r p h = record { left = ltZ_false h.left; right = ltZ_false h.right; top = ltZ_false h.top; bottom = ltZ_false h.bottom }
@@ -65,7 +64,11 @@ module _ (closed : Bool) (r : Rect64) (path : List Point64) (searches : (a b : P
   From p = Source closed r path p
 
   found : (a b : Point64) → Segment closed path a b → (s : Location) (q : Point64) (t : Location) → get_intersection r a b s ≡ Found q t → From q
-  found a b g s q t e = let h = searches a b g s q t e in crossing a b g t h.exact h.on h.near
+  found a b g s q t e = go (searches a b g s q t e)
+    where
+      go : Hit r a b q → From q
+      go (at_corner k l m) = corner_point k l m
+      go (at_crossing u x n) = crossing a b g u x n
 
   corners : (s : Location) → From (corner r s)
   corners Left = corner_point 0 (lit< tt) refl

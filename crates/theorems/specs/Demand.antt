@@ -102,26 +102,24 @@ pub data Segment (closed : Bool) (path : List Point64) : Point64 → Point64 →
   closing : T closed → 0 < length path → Segment closed path (pt_at path (length path - 1)) (pt_at path 0)
   turned : {a b : Point64} → Segment closed path a b → Segment closed path b a
 
--- on the edge of side s: on its line, between the edge's ends, ends included
-pub record OnEdge (r : Rect64) (s : Location) (p : Point64) : Type 0 where
-  pub is_side : same_location s Inside ≡ false
-  pub on_line : across s p ≡ line_of r s
-  pub not_before : begin_of r s ≤ℤ along s p
-  pub not_behind : along s p ≤ℤ end_of r s
-
--- an input point in or on the rectangle, a corner, or a point on an edge, less than 1 + 1/33,554,432 unit on each axis from one exact crossing of an input
--- segment with that edge
+-- an input point in or on the rectangle, a corner, or less than 1 + 1/33,554,432 unit on each axis from one exact crossing of an input segment with an edge
 pub data Source (closed : Bool) (r : Rect64) (path : List Point64) (p : Point64) : Type 0 where
   input_point : (i : ℕ) → i < length path → InOrOn r (pt_at path i) → p ≡ pt_at path i → Source closed r path p
   corner_point : (k : ℕ) → k < 4 → p ≡ pt_at (as_path r) k → Source closed r path p
-  crossing : (a b : Point64) → Segment closed path a b → (s : Location) → ExactCrossing r s a b → OnEdge r s p → NearTo r s a b p → Source closed r path p
+  crossing : (a b : Point64) → Segment closed path a b → (s : Location) → ExactCrossing r s a b → NearTo r s a b p → Source closed r path p
 
--- of every returned point; none lies outside the rectangle (document 02, 2/13)
+-- at most one unit outside: no coordinate is beyond a side by more than 1
+pub record AtMostOneOutside (r : Rect64) (p : Point64) : Type 0 where
+  pub left : (r.left -ℤ pos 1) ≤ℤ p.x
+  pub right : p.x ≤ℤ (r.right +ℤ pos 1)
+  pub top : (r.top -ℤ pos 1) ≤ℤ p.y
+  pub bottom : p.y ≤ℤ (r.bottom +ℤ pos 1)
+
 pub record Sourced (closed : Bool) (r : Rect64) (path : List Point64) (paths : List (List Point64)) : Type 0 where
   pub source : (q : List Point64) → Memᴰ q paths → (p : Point64) → Memᴰ p q → Source closed r path p
-  pub inside : (q : List Point64) → Memᴰ q paths → (p : Point64) → Memᴰ p q → InOrOn r p
+  pub close_by : (q : List Point64) → Memᴰ q paths → (p : Point64) → Memᴰ p q → AtMostOneOutside r p
 
--- Demand 3 of the paths that are returned of a path: each point has its source and is in or on the rectangle; of a closed path that is
+-- Demand 3 of the paths that are returned of a path: each point has its source and is at most one unit outside; of a closed path that is
 -- walked, the areas add up.
 pub record Exactness (closed : Bool) (r : Rect64) (path : List Point64) (paths : List (List Point64)) : Type 0 where
   pub sourced : Sourced closed r path paths

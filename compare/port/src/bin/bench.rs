@@ -5,9 +5,8 @@
 //!     bench --calls COUNT WHO JOB DRAWING SIZE    so many calls of one of them and nothing else, for a profiler:
 //!                                                 port, Rust or GEOS; closed, lines or present; a drawing of the table; points
 //!
-//! The port's lists have W and A sized to the drawing; clearing them is part of every call. The Rust, with the two steps of
-//! 2/13, allocates as it does; for *present*, which it lacks, it takes the bounds by `get_bounds_path` and asks whether they
-//! meet the rectangle.
+//! The port's lists have W and A sized to the drawing; clearing them is part of every call. The Rust allocates as it does;
+//! for *present*, which it lacks, it takes the bounds by `get_bounds_path` and asks whether they meet the rectangle.
 //! GEOS's input is built before, and its result is freed in the call. The three take turns, batch by batch, and each figure
 //! is the fastest batch; a batch of more than two milliseconds is measured in processor time of the thread.
 

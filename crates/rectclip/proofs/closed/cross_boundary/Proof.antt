@@ -30,7 +30,7 @@ is_inside_requires_2 c κs = search rules
 leave_requires : tie.Need-leave-requires
 leave_requires c κs =
     let s : tie.Start = search in
-    record { fits = s.pre.passing.fits; limit = s.pre.at }
+    record { fits = s.pre.passing.fits; close = s.pre.close }
 
 same_length_3 : tie.Need-same-length-3
 same_length_3 c = search rules

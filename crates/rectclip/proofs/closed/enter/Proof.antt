@@ -18,7 +18,7 @@ add_requires c κs =
     let w : tie.After-w = search in
     let e : tie.After-enter-corners = search in
     let s : tie.Start = search in
-    record { fits = e.enter_corners.ensures.fits _ w.w.given.1; limit = s.pre.at }
+    record { fits = e.enter_corners.ensures.fits _ w.w.given.1; close = s.pre.close }
 
 advance_of_requires : tie.Need-advance-of-requires
 advance_of_requires c κs = search rules

@@ -1,4 +1,4 @@
--- `goes_clockwise` meets its contract; the mid point is within the limit. Assumes nothing.
+-- `goes_clockwise` meets its contract; the mid point is within reach. Assumes nothing.
 use Rattle.rectclip.proofs.ClosedPass.{turn_limited}
 use borrow.Author.Rules.{rules}
 use Rattle.rectclip.proofs.closed.goes_clockwise.Statement.{statement}

@@ -1,7 +1,5 @@
 -- `pass_from` meets its contract: past the last point, no crossing, or a crossing. Assumes nothing.
 use native.Mathlib.Omega.{arith}
-use Rattle.rectclip.proofs.Limits.{framed}
-use Rattle.rectclip.proofs.Searches.{found_limited}
 use Rattle.rectclip.proofs.ClosedPasses.{segment_limited, pass_limited, from_ended, from_outside, from_crossed}
 use borrow.Author.Rules.{rules}
 use Rattle.rectclip.proofs.closed.pass_from.Statement.{statement}
@@ -48,7 +46,7 @@ cross_boundary_requires c κs =
     let point_before : tie.After-point-before = search in
     let point_at : tie.After-point-at = search in
     let s : tie.Start = search in
-    record { passing = record { fits = s.pre.fits; closes = pass_limited s.args.path.now _ s.pre.sheet point_at.point_at.ensures point_before.point_before.ensures; soon = omega arith }; at = found_limited (framed s.args.rect s.pre.sheet.frame) s.pre.sheet.extent g.get_intersection.ensures.1 i.ip.given.1 }
+    record { passing = record { fits = s.pre.fits; closes = pass_limited s.args.path.now _ s.pre.sheet point_at.point_at.ensures point_before.point_before.ensures; soon = omega arith }; close = g.get_intersection.ensures.1.reached s.pre.sheet.extent _ _ i.ip.given.1 }
 
 same_length : tie.Need-same-length
 same_length c = search rules

@@ -56,7 +56,7 @@ add_requires c κs =
     let s : tie.Start = search in
     let q : tie.After-q = search in
     let p : tie.After-pass-start = search in
-    record { fits = p.pass_start.ensures.fits _ q.q.given.1; limit = s.pre.at }
+    record { fits = p.pass_start.ensures.fits _ q.q.given.1; close = s.pre.close }
 
 same_length_5 : tie.Need-same-length-5
 same_length_5 c = search rules

@@ -8,7 +8,7 @@ use Rattle.rectclip.proofs.closed.pass_through.Tie as tie
 second_search_requires : tie.Need-second-search-requires
 second_search_requires c κs =
     let s : tie.Start = search in
-    record { extent = s.pre.passing.closes.extent; limits = searches s.pre.passing.closes.frame s.pre.passing.closes.start s.pre.passing.closes.end; at = s.pre.at }
+    record { extent = s.pre.passing.closes.extent; limits = searches s.pre.passing.closes.frame s.pre.passing.closes.start s.pre.passing.closes.end; at = s.pre.close }
 
 pass_to_requires : tie.Need-pass-to-requires
 pass_to_requires c κs =

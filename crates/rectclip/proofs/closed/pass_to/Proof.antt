@@ -10,7 +10,7 @@ first_of_requires c κs = search rules
 pass_in_requires : tie.Need-pass-in-requires
 pass_in_requires c κs =
     let s : tie.Start = search in
-    record { passing = s.pre.leaves.passing; at = s.pre.enters }
+    record { passing = s.pre.leaves.passing; close = s.pre.enters }
 
 enum_known_walk : tie.Need-enum-known-walk
 enum_known_walk c = search rules
@@ -20,7 +20,7 @@ pass_out_requires c κs =
     let w : tie.After-walk = search in
     let p : tie.After-pass-in = search in
     let s : tie.Start = search in
-    record { corners = record { fits = p.pass_in.ensures.fits _ w.walk.given.1; limit = s.pre.leaves.passing.closes.frame }; at = s.pre.leaves.at }
+    record { corners = record { fits = p.pass_in.ensures.fits _ w.walk.given.1; limit = s.pre.leaves.passing.closes.frame }; close = s.pre.leaves.close }
 
 enum_known_k : tie.Need-enum-known-k
 enum_known_k c = search rules

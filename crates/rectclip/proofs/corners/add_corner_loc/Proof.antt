@@ -1,5 +1,5 @@
 -- `add_corner_loc` meets its contract, by `add`'s.
-use Rattle.rectclip.proofs.Limits.{framed, corner_limited}
+use Rattle.rectclip.proofs.Limits.{close_corner}
 use borrow.Author.Rules.{rules}
 use Rattle.rectclip.proofs.corners.add_corner_loc.Statement.{statement}
 use Rattle.rectclip.proofs.corners.add_corner_loc.Tie as tie
@@ -8,7 +8,7 @@ corner_requires : tie.Need-corner-requires
 corner_requires c κs = search rules
 
 add_requires : tie.Need-add-requires
-add_requires c κs = let s : tie.Start = search in record { fits = s.pre.fits; limit = rw c.corner.ensures (corner_limited s.args.rect (framed s.args.rect s.pre.limit) s.args.loc) }
+add_requires c κs = let s : tie.Start = search in record { fits = s.pre.fits; close = rw c.corner.ensures (close_corner s.args.rect s.args.loc s.pre.limit) }
 
 same_length : tie.Need-same-length
 same_length c = search rules
@@ -30,7 +30,7 @@ corner_requires_2 : tie.Need-corner-requires-2
 corner_requires_2 c κs = search rules
 
 add_requires_2 : tie.Need-add-requires-2
-add_requires_2 c κs = let s : tie.Start = search in record { fits = s.pre.fits; limit = rw c.corner2.ensures (corner_limited s.args.rect (framed s.args.rect s.pre.limit) c.before.get_adjacent_location.result) }
+add_requires_2 c κs = let s : tie.Start = search in record { fits = s.pre.fits; close = rw c.corner2.ensures (close_corner s.args.rect c.before.get_adjacent_location.result s.pre.limit) }
 
 same_length_3 : tie.Need-same-length-3
 same_length_3 c = search rules

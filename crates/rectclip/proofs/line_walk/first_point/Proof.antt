@@ -6,6 +6,7 @@ use Rattle.plane.specs.Points.{points_of}
 use Rattle.reference.specs.Walk.{no_room, add}
 use mathlib.Core.Bool.{false}
 use Rattle.rectclip.proofs.Limits.{path_limited}
+use Rattle.rectclip.proofs.Reach.{reached}
 use Rattle.rectclip.proofs.Opening.{fits_fresh, from_fresh, fresh_walked, first_inside, first_outside, step_by}
 use borrow.Author.Rules.{rules}
 use Rattle.rectclip.proofs.line_walk.first_point.Statement.{statement}
@@ -21,7 +22,7 @@ point_at_requires : tie.Need-point-at-requires
 point_at_requires c κs = search rules
 
 add_requires : tie.Need-add-requires
-add_requires c κs = let s : tie.Start = search in record { fits = rw c.before.new.ensures (fits_fresh s.pre.room s.pre.few); limit = rw c.point_at.ensures (path_limited s.args.path.now s.pre.limit 0) }
+add_requires c κs = let s : tie.Start = search in record { fits = rw c.before.new.ensures (fits_fresh s.pre.room s.pre.few); close = rw c.point_at.ensures (reached (path_limited s.args.path.now s.pre.limit 0)) }
 
 same_length : tie.Need-same-length
 same_length c = search rules

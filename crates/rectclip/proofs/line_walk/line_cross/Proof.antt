@@ -10,7 +10,7 @@ is_inside_requires : tie.Need-is-inside-requires
 is_inside_requires c κs = search rules
 
 add_requires : tie.Need-add-requires
-add_requires c κs = let s : tie.Start = search in record { fits = s.pre.fits; limit = s.pre.at }
+add_requires c κs = let s : tie.Start = search in record { fits = s.pre.fits; close = s.pre.at }
 
 move_of_requires : tie.Need-move-of-requires
 move_of_requires c κs = search rules
@@ -52,7 +52,7 @@ returns_2 c =
     passed s.args.rect s.args.store.now s.args.work.now s.args.nx s.args.prev s.args.prev_pt s.args.pt s.args.ip (sym i.is_inside.ensures ∙ else1.if1.left) (sym i2.is_inside2.ensures ∙ not-true _ then2.if2.taken) l.line_through.ensures
 
 add_requires_2 : tie.Need-add-requires-2
-add_requires_2 c κs = let s : tie.Start = search in record { fits = s.pre.fits; limit = s.pre.at }
+add_requires_2 c κs = let s : tie.Start = search in record { fits = s.pre.fits; close = s.pre.at }
 
 move_of_requires_2 : tie.Need-move-of-requires-2
 move_of_requires_2 c κs = search rules

@@ -1,6 +1,6 @@
 -- `line_from` meets its contract: past the last point, no crossing, or a crossing.
-use Rattle.rectclip.proofs.Limits.{framed, path_limited, searches}
-use Rattle.rectclip.proofs.Searches.{found_limited}
+use Rattle.rectclip.proofs.Limits.{path_limited, searches}
+use Rattle.rectclip.proofs.Reach.{reached}
 use Prim.Native.Nat.{◌-◌}
 use Rattle.rectclip.proofs.Crossing.{from_over, from_next, from_crossing}
 use borrow.Author.Rules.{rules}
@@ -47,7 +47,7 @@ line_cross_requires c κs =
     let p2 : tie.After-point-at2 = search in
     let p : tie.After-point-at = search in
     let s : tie.Start = search in
-    record { fits = s.pre.fits; extent = s.pre.sheet.extent; frame = s.pre.sheet.frame; start = rw p2.point_at2.ensures (path_limited s.args.path.now s.pre.sheet.points (s.args.nx.i - 1)); end = rw p.point_at.ensures (path_limited s.args.path.now s.pre.sheet.points s.args.nx.i); at = found_limited (framed s.args.rect s.pre.sheet.frame) s.pre.sheet.extent g.get_intersection.ensures.1 i.ip.given.1 }
+    record { fits = s.pre.fits; extent = s.pre.sheet.extent; frame = s.pre.sheet.frame; start = rw p2.point_at2.ensures (path_limited s.args.path.now s.pre.sheet.points (s.args.nx.i - 1)); end = rw p.point_at.ensures (path_limited s.args.path.now s.pre.sheet.points s.args.nx.i); at = g.get_intersection.ensures.1.reached s.pre.sheet.extent _ _ i.ip.given.1 }
 
 same_length : tie.Need-same-length
 same_length c = search rules

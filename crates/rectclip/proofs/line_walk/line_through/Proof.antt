@@ -14,7 +14,7 @@ add_requires : tie.Need-add-requires
 add_requires c κs =
     let q : tie.After-second-search = search in
     let s : tie.Start = search in
-    record { fits = s.pre.fits; limit = q.second_search.ensures.1 }
+    record { fits = s.pre.fits; close = q.second_search.ensures.1 }
 
 enum_known_r : tie.Need-enum-known-r
 enum_known_r c = search rules
@@ -44,7 +44,7 @@ add_requires_2 c κs =
     let r : tie.After-r = search in
     let a : tie.After-add = search in
     let s : tie.Start = search in
-    record { fits = a.add.ensures.fits _ r.r.given.1; limit = s.pre.at }
+    record { fits = a.add.ensures.fits _ r.r.given.1; close = s.pre.at }
 
 move_of_requires_2 : tie.Need-move-of-requires-2
 move_of_requires_2 c κs = search rules

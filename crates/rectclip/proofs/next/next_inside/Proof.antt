@@ -3,6 +3,7 @@ use mathlib.Core.Path.{◌∙◌}
 use Prim.Native.Nat.{◌-◌}
 use borrow.Author.Tests.{not-true, not-false}
 use Rattle.rectclip.proofs.Limits.{path_limited}
+use Rattle.rectclip.proofs.Reach.{reached}
 use Rattle.rectclip.proofs.Moving.{InsideGoing, inside_starts, inside_exits, inside_again, inside_lost, inside_ends}
 use borrow.Author.Rules.{rules}
 use Rattle.rectclip.proofs.next.next_inside.Statement.{statement}
@@ -50,7 +51,7 @@ add_requires c κs =
     let p : tie.After-point-at invariant_loop decreases_loop = search in
     let h : tie.At-loop invariant_loop decreases_loop = search in
     let s : tie.Start invariant_loop decreases_loop = search in
-    record { fits = h.loop.inv.going.fits; limit = rw p.point_at.ensures (path_limited s.args.path.now s.pre.sheet.points h.loop.i) }
+    record { fits = h.loop.inv.going.fits; close = rw p.point_at.ensures (reached (path_limited s.args.path.now s.pre.sheet.points h.loop.i)) }
 
 enum_known_v : tie.Need-enum-known-v invariant_loop decreases_loop
 enum_known_v c = search rules

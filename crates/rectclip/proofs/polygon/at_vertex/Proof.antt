@@ -4,8 +4,8 @@ use Prim.Native.Nat.{ℕ}
 use mir.Syntax.{w64}
 use mir.Val.{SFits}
 use Rattle.integers.specs.Tests.{eq_plain, ne_plain}
-use Rattle.plane.specs.Limit.{Limited}
 use Rattle.plane.specs.Points.{points_of, pt_at}
+use Rattle.rectclip.specs.Bounds.{Reached}
 use Rattle.rectclip.proofs.ScanSteps.{index_before, level_is, pass_is, level_within, pass_within}
 use borrow.Author.Rules.{rules}
 use Rattle.rectclip.proofs.polygon.at_vertex.Statement.{statement}
@@ -50,8 +50,8 @@ edge_passes_requires c κs =
     let b : tie.After-before-idx = search in
     let p : tie.After-point-at2 = search in
     record {
-      first = subst Limited (sym p.point_at2.ensures) (s.pre.vertices.vertex _ b.before_idx.ensures.1);
-      second = subst Limited (sym v.point_at.ensures) (s.pre.vertices.vertex _ s.pre.here);
+      first = subst Reached (sym p.point_at2.ensures) (s.pre.vertices.vertex _ b.before_idx.ensures.1);
+      second = subst Reached (sym v.point_at.ensures) (s.pre.vertices.vertex _ s.pre.here);
       third = s.pre.vertices.asked;
     }
 

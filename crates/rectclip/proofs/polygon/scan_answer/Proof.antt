@@ -11,7 +11,7 @@ use mir.Syntax.{w64}
 use mir.Val.{SFits, to_z, of_z}
 use mir.Facts.{to_z-of_z}
 use Rattle.plane.specs.Basics.{if◌then◌else◌}
-use Rattle.plane.specs.Limit.{Limited}
+use Rattle.rectclip.specs.Bounds.{Reached}
 use Rattle.rectclip.proofs.Segments.{zero_yes, zero_no}
 use Rattle.rectclip.proofs.ScanPasses.{ends_alike, ends_on, ends_across, ends_aside}
 use borrow.Author.Rules.{rules}
@@ -57,8 +57,8 @@ cross_product_sign_requires c κs =
     let v : tie.After-point-at = search in
     let b : tie.After-before-idx = search in
     record {
-      first = subst Limited (sym c.point_at2.ensures) (s.pre.0.vertices.vertex _ b.before_idx.ensures.1);
-      second = subst Limited (sym v.point_at.ensures) (s.pre.0.vertices.vertex _ (on_path _ _ _ s.pre.1 f.start_from.ensures));
+      first = subst Reached (sym c.point_at2.ensures) (s.pre.0.vertices.vertex _ b.before_idx.ensures.1);
+      second = subst Reached (sym v.point_at.ensures) (s.pre.0.vertices.vertex _ (on_path _ _ _ s.pre.1 f.start_from.ensures));
       third = s.pre.0.vertices.asked;
     }
 

@@ -34,9 +34,9 @@ is_collinear_requires c κs =
     let a_point_of3 : tie.After-point-of3 = search in
     let a_next_of : tie.After-next-of = search in
     record {
-      first = rw a_point_of.point_of.ensures (s.pre.drawn.limited a_prev_of.prev_of.result (rw a_prev_of.prev_of.ensures (s.pre.holds.valid.prev_in s.args.op s.pre.op_in)));
-      second = rw a_point_of2.point_of2.ensures (s.pre.drawn.limited s.args.op s.pre.op_in);
-      third = rw a_point_of3.point_of3.ensures (s.pre.drawn.limited a_next_of.next_of.result (rw a_next_of.next_of.ensures (s.pre.holds.valid.next_in s.args.op s.pre.op_in)));
+      first = rw a_point_of.point_of.ensures (s.pre.drawn.reached a_prev_of.prev_of.result (rw a_prev_of.prev_of.ensures (s.pre.holds.valid.prev_in s.args.op s.pre.op_in)));
+      second = rw a_point_of2.point_of2.ensures (s.pre.drawn.reached s.args.op s.pre.op_in);
+      third = rw a_point_of3.point_of3.ensures (s.pre.drawn.reached a_next_of.next_of.result (rw a_next_of.next_of.ensures (s.pre.holds.valid.next_in s.args.op s.pre.op_in)));
     }
 
 returns : tie.Need-returns

@@ -1,6 +1,5 @@
 -- `edge_ends` meets its contract. Assumes nothing.
-use mathlib.Core.Path.{ap, ◌∙◌}
-use Rattle.plane.specs.Intersection.{held_to_edge}
+use mathlib.Core.Path.{◌∙◌}
 use Rattle.rectclip.proofs.Segments.{zero_yes, zero_no, alike, edge_first, edge_second, edge_past, edge_between}
 use borrow.Author.Rules.{rules}
 use Rattle.rectclip.proofs.search.edge_ends.Statement.{statement}
@@ -46,9 +45,6 @@ returns_3 c =
 get_segment_intersect_pt_requires : tie.Need-get-segment-intersect-pt-requires
 get_segment_intersect_pt_requires c κs = search rules
 
-held_to_edge_requires : tie.Need-held-to-edge-requires
-held_to_edge_requires c κs = search rules
-
 returns_4 : tie.Need-returns-4
 returns_4 c =
     let s : tie.Start = search in
@@ -57,8 +53,7 @@ returns_4 c =
     let e1 : tie.Else1 = search in
     let e2 : tie.Else2 = search in
     let e3 : tie.Else3 = search in
-    let x : tie.After-get-segment-intersect-pt = search in
-    c.held_to_edge.ensures ∙ ap (held_to_edge s.args.p3 s.args.p4) x.get_segment_intersect_pt.ensures.0 ∙ edge_between _ _ _ _ (zero_no (record { sfits = a.cross_product_sign.ok }) a.cross_product_sign.ensures e1.if1.left) (zero_no (record { sfits = b.cross_product_sign2.ok }) b.cross_product_sign2.ensures e2.if2.left) (alike (record { sfits = a.cross_product_sign.ok }) (record { sfits = b.cross_product_sign2.ok }) a.cross_product_sign.ensures b.cross_product_sign2.ensures e3.if3.left)
+    c.get_segment_intersect_pt.ensures.0 ∙ edge_between _ _ _ _ (zero_no (record { sfits = a.cross_product_sign.ok }) a.cross_product_sign.ensures e1.if1.left) (zero_no (record { sfits = b.cross_product_sign2.ok }) b.cross_product_sign2.ensures e2.if2.left) (alike (record { sfits = a.cross_product_sign.ok }) (record { sfits = b.cross_product_sign2.ok }) a.cross_product_sign.ensures b.cross_product_sign2.ensures e3.if3.left)
 
 pub edge_ends_spec : {M : Type 1} → statement M
 edge_ends_spec =
@@ -72,5 +67,4 @@ edge_ends_spec =
     returns_2
     returns_3
     get_segment_intersect_pt_requires
-    held_to_edge_requires
     returns_4)

@@ -1,18 +1,18 @@
--- `get_intersection` meets its contract: it tries sides in the source's order, and what it finds lies on its edge. Assumes nothing.
+-- `get_intersection` meets its contract: it tries sides in the source's order, and what it finds is near. Assumes nothing.
 use mathlib.Core.Path.{◌≡◌}
 use Rattle.plane.specs.Intersection.{side_intersection, get_intersection}
 use Rattle.plane.specs.declared.crossing.Search.{Search}
 use Rattle.plane.specs.declared.location.Location.{Location}
 use Rattle.plane.specs.declared.point.Point64.{Point64}
 use Rattle.plane.specs.declared.rect.Rect64.{Rect64}
-use Rattle.rectclip.specs.Bounds.{OnItsEdge}
-use Rattle.rectclip.proofs.Searches.{on_its_edge}
+use Rattle.rectclip.specs.Bounds.{SearchLimits, InReach}
+use Rattle.rectclip.proofs.Searches.{in_reach}
 use borrow.Author.Rules.{rules}
 use Rattle.rectclip.proofs.search.get_intersection.Statement.{statement}
 use Rattle.rectclip.proofs.search.get_intersection.Tie as tie
 
-both : (r : Rect64) (p p2 : Point64) (loc : Location) {x : Search} → x ≡ get_intersection r p p2 loc → (x ≡ get_intersection r p p2 loc) × OnItsEdge r x
-both r p p2 loc e = (e, on_its_edge r p p2 loc e)
+both : {r : Rect64} {p p2 : Point64} (loc : Location) {x : Search} → SearchLimits r p p2 → x ≡ get_intersection r p p2 loc → (x ≡ get_intersection r p p2 loc) × InReach r x
+both loc h e = (e, in_reach loc h e)
 
 enum_told : tie.Need-enum-told
 enum_told c = search rules
@@ -49,34 +49,34 @@ unfolding get_intersection
 returns c =
     let s : tie.Start = search in
     let e : tie.After-enum-told = search in
-    both s.args.rect s.args.p s.args.p2 s.args.loc (rw e.enum_told.given.1 c.side_intersection.ensures)
+    both s.args.loc s.pre (rw e.enum_told.given.1 c.side_intersection.ensures)
 
 returns_2 : tie.Need-returns-2
 unfolding get_intersection
 returns_2 c =
     let s : tie.Start = search in
     let e : tie.After-enum-told2 = search in
-    both s.args.rect s.args.p s.args.p2 s.args.loc (rw e.enum_told2.given.1 c.side_intersection2.ensures)
+    both s.args.loc s.pre (rw e.enum_told2.given.1 c.side_intersection2.ensures)
 
 returns_3 : tie.Need-returns-3
 unfolding get_intersection
 returns_3 c =
     let s : tie.Start = search in
     let e : tie.After-enum-told3 = search in
-    both s.args.rect s.args.p s.args.p2 s.args.loc (rw e.enum_told3.given.1 c.side_intersection3.ensures)
+    both s.args.loc s.pre (rw e.enum_told3.given.1 c.side_intersection3.ensures)
 
 returns_4 : tie.Need-returns-4
 unfolding get_intersection
 returns_4 c =
     let s : tie.Start = search in
     let e : tie.After-enum-told4 = search in
-    both s.args.rect s.args.p s.args.p2 s.args.loc (rw e.enum_told4.given.1 c.side_intersection4.ensures)
+    both s.args.loc s.pre (rw e.enum_told4.given.1 c.side_intersection4.ensures)
 
 returns_5 : tie.Need-returns-5
 returns_5 c =
     let s : tie.Start = search in
     let e : tie.After-enum-told5 = search in
-    both s.args.rect s.args.p s.args.p2 s.args.loc (rw e.enum_told5.given.1 c.inside_intersection.ensures)
+    both s.args.loc s.pre (rw e.enum_told5.given.1 c.inside_intersection.ensures)
 
 pub get_intersection_spec : {M : Type 1} → statement M
 get_intersection_spec =

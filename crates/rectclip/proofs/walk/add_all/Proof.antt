@@ -1,6 +1,7 @@
 -- `add_all` meets its contract: what is left to add from point `i` on is what there was to add.
 use mathlib.Core.Path.{◌∙◌}
 use Rattle.rectclip.proofs.Limits.{path_limited}
+use Rattle.rectclip.proofs.Reach.{reached}
 use Prim.Native.Nat.{◌-◌}
 use borrow.Author.Rules.{rules}
 use Rattle.rectclip.proofs.Turning.{AllGoing, all_start, all_again, all_lost, all_done}
@@ -23,7 +24,7 @@ add_requires : tie.Need-add-requires invariant_loop decreases_loop
 add_requires c κs =
     let h : tie.At-loop invariant_loop decreases_loop = search in
     let s : tie.Start invariant_loop decreases_loop = search in
-    record { fits = h.loop.inv.going.fits; limit = rw c.point_at.ensures (path_limited s.args.path.now s.pre.limit h.loop.i) }
+    record { fits = h.loop.inv.going.fits; close = rw c.point_at.ensures (reached (path_limited s.args.path.now s.pre.limit h.loop.i)) }
 
 enum_known_r : tie.Need-enum-known-r invariant_loop decreases_loop
 enum_known_r c = search rules
