@@ -181,7 +181,7 @@ pub ruleset ztest = (zint, lt_yes, lt_no, le_yes, le_no, eq_yes)
 
 -- ---- a call's signed result r: what the machine reads of it is what the callee ensures. `back c.f.ok c.f.ensures`
 pub back : {r z : ℤ} → mag r < 2 ^ 63 → r ≡ z → to_z w64 (of_z w64 r) ≡ z
-back {r} {z} h e = to_z-of_z (record { sfits = h }) ∙ e
+back {r} {z} h e = to_z-of_z {w = w64} (record { sfits = h }) ∙ e
 
 -- ---- the range check of the code, `(-B <= z) & (z <= B)`, is a test of the absolute value
 pub range_is : (B : ℕ) (z : ℤ) → (le_z (neg_ℤ (pos B)) z && le_z z (pos B)) ≡ leb (nat_abs z) B
