@@ -15,7 +15,7 @@ const MAX_ROOM: usize = 65536;
 const MAX_ALLOWANCE: usize = 65535;
 
 // A call that is let through, with its path's bounds, or why it is not.
-#[derive(Drop)]
+#[derive(Clone, Copy)]
 pub enum Admission {
     Admitted(Rect64),
     Refused(Refusal),

@@ -3,7 +3,7 @@ ghost use Rattle.std.specs.Prelude.{◌≡◌};
 ghost use Rattle.entry.specs.Answers.{number};
 
 // Why a call is refused, in the order of the numbers 1 to 12; 9 is not used.
-#[derive(Drop)]
+#[derive(Clone, Copy)]
 pub enum Refusal {
     OddCoordinates,
     StoreTooLong,
@@ -40,7 +40,7 @@ impl Refusal {
 }
 
 // How many paths and points a result has, and how many turns it took.
-#[derive(Drop)]
+#[derive(Clone, Copy)]
 pub struct Counts {
     pub paths: u32,
     pub points: u32,
@@ -48,14 +48,14 @@ pub struct Counts {
 }
 
 // What a clipper answers.
-#[derive(Drop)]
+#[derive(Clone, Copy)]
 pub enum Answer {
     Drawn(Counts),
     Refused(Refusal),
 }
 
 // What `present` answers.
-#[derive(Drop)]
+#[derive(Clone, Copy)]
 pub enum Presence {
     Refused(Refusal),
     Present,

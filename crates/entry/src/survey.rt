@@ -8,7 +8,7 @@ use plane::point::Point64;
 use plane::rect::{Rect64, max, min};
 
 // A path's bounds, and whether every coordinate is within the limit.
-#[derive(Drop)]
+#[derive(Clone, Copy)]
 pub struct Extent {
     pub bounds: Rect64,
     pub in_limit: bool,

@@ -6,7 +6,7 @@ use crate::location::Location;
 use crate::point::Point64;
 
 // A crossing before it is cut to whole numbers: none, one at a known point, or one at a fraction of the segment.
-#[derive(Drop)]
+#[derive(Clone, Copy)]
 pub enum Crossing {
     Nothing,
     At(Point64),
@@ -14,7 +14,7 @@ pub enum Crossing {
 }
 
 // The float working of one segment and one edge: the segment's start and differences, the determinant and the fraction.
-#[derive(Drop)]
+#[derive(Clone, Copy)]
 pub struct Working {
     pub x: f64,
     pub y: f64,
@@ -25,21 +25,21 @@ pub struct Working {
 }
 
 // What `get_segment_intersection` answers: the segment and the edge do not meet, or meet at a point of whole numbers.
-#[derive(Drop)]
+#[derive(Clone, Copy)]
 pub enum Meeting {
     Apart,
     Met(Point64),
 }
 
 // What `get_intersection` answers: nothing, or the crossing and its side.
-#[derive(Drop)]
+#[derive(Clone, Copy)]
 pub enum Search {
     Missed,
     Found(Point64, Location),
 }
 
 // A crossing, and its side.
-#[derive(Drop)]
+#[derive(Clone, Copy)]
 pub struct SidePoint {
     pub point: Point64,
     pub side: Location,

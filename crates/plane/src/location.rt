@@ -3,7 +3,7 @@ ghost use Rattle.std.specs.Prelude.{◌≡◌, true, false};
 ghost use Rattle.plane.specs.Rectangle.{spot};
 ghost use Rattle.plane.specs.Locations.{side_number, side, same_location, is_inside, opposite, lower, upper, get_adjacent_location, heading_clockwise, are_opposites};
 
-#[derive(Drop)]
+#[derive(Clone, Copy)]
 pub enum Location {
     Left,
     Top,
@@ -13,7 +13,7 @@ pub enum Location {
 }
 
 // What `get_location` answers: the location, and whether the point is off the edges.
-#[derive(Drop)]
+#[derive(Clone, Copy)]
 pub struct Spot {
     pub loc: Location,
     pub off: bool,
@@ -36,7 +36,7 @@ impl Spot {
 }
 
 // What `point_in_polygon` answers.
-#[derive(Drop)]
+#[derive(Clone, Copy)]
 pub enum PointInPolygonResult {
     IsOn,
     IsInside,

@@ -2,7 +2,7 @@
 ghost use Rattle.std.specs.Prelude.{◌≡◌};
 ghost use Rattle.plane.specs.Points.{point, same_point};
 
-#[derive(Drop)]
+#[derive(Clone, Copy)]
 pub struct Point64 {
     pub x: i64,
     pub y: i64,

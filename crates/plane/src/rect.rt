@@ -10,7 +10,7 @@ ghost use Rattle.std.specs.Int.Signed.{quot_z};
 use crate::location::{Location, Spot};
 use crate::point::Point64;
 
-#[derive(Drop)]
+#[derive(Clone, Copy)]
 pub struct Rect64 {
     pub left: i64,
     pub top: i64,

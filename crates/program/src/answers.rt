@@ -17,7 +17,7 @@ use text::reading::{Request, read_line};
 use text::writing::{write_path, write_rectangle, write_refusal};
 
 // What line 1 gives: a refusal, or the rectangle of the lines that follow; and how many bytes are written.
-#[derive(Drop)]
+#[derive(Clone, Copy)]
 pub enum Start {
     Refused(Refusal, usize),
     Ready(Rect64, usize),

@@ -5,7 +5,7 @@ ghost use Rattle.program.specs.Taken.{TakesHeld, TakesLine, IsLine};
 use libc::STDIN_FILENO;
 
 // Where the next byte of the buffer stands, and how many bytes it holds.
-#[derive(Drop)]
+#[derive(Clone, Copy)]
 pub struct Cursor {
     pub at: usize,
     pub end: usize,
@@ -13,7 +13,7 @@ pub struct Cursor {
 
 // What was taken of a line: where the cursor stands behind it, how many of its bytes are at the front of the line's list, and whether its
 // line feed was taken.
-#[derive(Drop)]
+#[derive(Clone, Copy)]
 pub struct Held {
     pub cursor: Cursor,
     pub count: usize,
@@ -22,7 +22,7 @@ pub struct Held {
 
 // A line at the front of the line's list: how many of its bytes are there, whether there was one at all, and whether a line feed ended it. One
 // that has begun and not ended is the input's last.
-#[derive(Drop)]
+#[derive(Clone, Copy)]
 pub struct Taken {
     pub cursor: Cursor,
     pub count: usize,

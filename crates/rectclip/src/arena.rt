@@ -8,7 +8,7 @@ ghost use Rattle.rectclip.specs.Arenas.{arena_at, Holds, Marked, Leaves, Grows, 
 use crate::lists::{EDGE, EDGES, NEXT, OWNER, PREV, RESULT, get, store};
 
 // How many slots there are, how many of them are nodes and results, and how long each edge list is.
-#[derive(Drop)]
+#[derive(Clone, Copy)]
 pub(crate) struct Sizes {
     pub slots: usize,
     pub nodes: usize,

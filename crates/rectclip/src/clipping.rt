@@ -12,7 +12,7 @@ use crate::tidy::tidy_all;
 use plane::rect::Rect64;
 
 // What is left to read out; `full` where one more turn is needed than is allowed.
-#[derive(Drop)]
+#[derive(Clone, Copy)]
 pub(crate) struct Clipped {
     pub full: bool,
     pub turns: usize,

@@ -23,7 +23,7 @@ use plane::point::Point64;
 use plane::rect::Rect64;
 
 // What a pass of the `while` hands to the next.
-#[derive(Drop)]
+#[derive(Clone, Copy)]
 pub(crate) struct ClosedState {
     pub walk: WalkState,
     pub i: usize,
@@ -49,14 +49,14 @@ impl ClosedState {
 }
 
 // How a pass ends: the state, or a refusal.
-#[derive(Drop)]
+#[derive(Clone, Copy)]
 pub(crate) enum Advance {
     On(ClosedState),
     Refused(Refusal),
 }
 
 // What a pass knows once `get_next_location` has moved on to the point `path[i]`.
-#[derive(Drop)]
+#[derive(Clone, Copy)]
 pub(crate) struct Pass {
     pub walk: WalkState,
     pub i: usize,

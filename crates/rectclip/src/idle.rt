@@ -11,14 +11,14 @@ use crate::regroup::{four_of, overlap};
 use crate::rings::is_stub;
 
 // How far the counter-clockwise list of the side is worked off, and how many turns are left.
-#[derive(Drop)]
+#[derive(Clone, Copy)]
 pub(crate) struct Along {
     pub j: usize,
     pub left: usize,
 }
 
 // How far both lists of the side are worked off, and how many turns are left.
-#[derive(Drop)]
+#[derive(Clone, Copy)]
 pub(crate) struct Place {
     pub i: usize,
     pub j: usize,

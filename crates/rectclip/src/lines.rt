@@ -14,7 +14,7 @@ use entry::answer::{Answer, Counts, Refusal};
 use plane::rect::Rect64;
 
 // The clipper of open paths, for one rectangle.
-#[derive(Drop)]
+#[derive(Clone, Copy)]
 pub struct RectClipLines64 {
     pub rect: Rect64,
 }

@@ -16,7 +16,7 @@ use plane::point::Point64;
 use plane::rect::Rect64;
 
 // A side's line: a bound on x (offset 0) or y (offset 1), and whether outside is below it.
-#[derive(Drop)]
+#[derive(Clone, Copy)]
 pub(crate) struct Line {
     pub offset: usize,
     pub low: bool,
@@ -24,14 +24,14 @@ pub(crate) struct Line {
 }
 
 // Where a scan of the path ends: at point `i`, with the location that is met there.
-#[derive(Drop)]
+#[derive(Clone, Copy)]
 pub(crate) struct ScanEnd {
     pub loc: Location,
     pub i: usize,
 }
 
 // The walk and the variables that `get_next_location` changes.
-#[derive(Drop)]
+#[derive(Clone, Copy)]
 pub(crate) struct NextState {
     pub walk: WalkState,
     pub loc: Location,
@@ -39,7 +39,7 @@ pub(crate) struct NextState {
 }
 
 // A move along the path: where the walk stands afterwards, or a refusal.
-#[derive(Drop)]
+#[derive(Clone, Copy)]
 pub(crate) enum Move {
     To(NextState),
     Stopped(Refusal),

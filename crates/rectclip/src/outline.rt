@@ -20,7 +20,7 @@ use plane::rect::Rect64;
 
 // How the path goes round the rectangle, where it contains it: the last four points are then the corners, each entered in the
 // clockwise edge list of its side.
-#[derive(Drop)]
+#[derive(Clone, Copy)]
 pub(crate) enum Round {
     Never,
     Clockwise,
@@ -28,21 +28,21 @@ pub(crate) enum Round {
 }
 
 // The walk, and how it went round the rectangle.
-#[derive(Drop)]
+#[derive(Clone, Copy)]
 pub(crate) struct Outline {
     pub walk: WalkState,
     pub round: Round,
 }
 
 // The walk of a closed path: its outline, or a refusal.
-#[derive(Drop)]
+#[derive(Clone, Copy)]
 pub(crate) enum Outlined {
     Done(Outline),
     Refused(Refusal),
 }
 
 // How many steps along the start sides go clockwise, and how many the other way.
-#[derive(Drop)]
+#[derive(Clone, Copy)]
 pub(crate) struct Turns {
     pub ups: usize,
     pub downs: usize,

@@ -11,7 +11,7 @@ use crate::lists::{NONE, put_point};
 use crate::rings::{is_stub, point_of, straighten};
 
 // How many paths and points there are.
-#[derive(Drop)]
+#[derive(Clone, Copy)]
 pub(crate) struct Counts {
     pub paths: usize,
     pub points: usize,

@@ -7,7 +7,7 @@ use crate::lists::{RESULT, get, point_at, put_point};
 use crate::walk::Walk_state;
 
 // How many paths are returned, and how many points they have.
-#[derive(Drop)]
+#[derive(Clone, Copy)]
 pub(crate) struct Tally {
     pub paths: usize,
     pub points: usize,

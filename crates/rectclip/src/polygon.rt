@@ -13,7 +13,7 @@ use plane::location::Point_in_polygon_result;
 use plane::point::Point64;
 
 // The variables of the scan round the polygon.
-#[derive(Drop)]
+#[derive(Clone, Copy)]
 pub(crate) struct Scan {
     curr_idx: usize,
     is_above: bool,
@@ -22,7 +22,7 @@ pub(crate) struct Scan {
 }
 
 // How one pass of the scan ends: on the boundary, at its end, or going on.
-#[derive(Drop)]
+#[derive(Clone, Copy)]
 pub(crate) enum ScanStep {
     OnEdge,
     Stop(Scan),
@@ -30,7 +30,7 @@ pub(crate) enum ScanStep {
 }
 
 // How an edge passes the point: through it, on its right, or on its left.
-#[derive(Drop)]
+#[derive(Clone, Copy)]
 pub(crate) enum Passing {
     Through,
     Aside,
@@ -325,7 +325,7 @@ pub(crate) fn point_in_polygon(pt: Point64, polygon: &[i64]) -> PointInPolygonRe
 }
 
 // The count of `path1_contains_path2`: points outside less points inside.
-#[derive(Drop)]
+#[derive(Clone, Copy)]
 pub(crate) struct Tally {
     io_count: i64,
 }

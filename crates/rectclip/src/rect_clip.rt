@@ -17,7 +17,7 @@ use entry::answer::Answer;
 use plane::rect::Rect64;
 
 // The clipper of closed paths, for one rectangle.
-#[derive(Drop)]
+#[derive(Clone, Copy)]
 pub struct RectClip64 {
     pub rect: Rect64,
 }

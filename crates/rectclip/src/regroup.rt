@@ -11,7 +11,7 @@ use crate::rings::{point_of, set_new_owner};
 use plane::direction::{has_horz_overlap, has_vert_overlap};
 
 // The four nodes of a split or a rejoining.
-#[derive(Drop)]
+#[derive(Clone, Copy)]
 pub(crate) struct Four {
     pub p1: usize,
     pub p1a: usize,

@@ -13,14 +13,14 @@ use crate::segment::is_collinear;
 use plane::point::Point64;
 
 // The nodes on both sides of one that was taken out of its ring; NONE both, where it was alone.
-#[derive(Drop)]
+#[derive(Clone, Copy)]
 pub(crate) struct Neighbours {
     pub prev: usize,
     pub next: usize,
 }
 
 // The two nodes of a loop that goes round a ring.
-#[derive(Drop)]
+#[derive(Clone, Copy)]
 pub(crate) struct Round {
     pub op: usize,
     pub op2: usize,

@@ -13,7 +13,7 @@ use plane::point::Point64;
 use rounding::to_whole;
 
 // The two products whose difference is the cross product of a turn.
-#[derive(Drop)]
+#[derive(Clone, Copy)]
 pub(crate) struct Products {
     pub ab: i64,
     pub cd: i64,

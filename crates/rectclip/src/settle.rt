@@ -16,7 +16,7 @@ use crate::rings::{is_stub, point_of};
 use plane::point::Point64;
 
 // What a turn hands to the next: the sizes, and how far the two lists of the side are worked off.
-#[derive(Drop)]
+#[derive(Clone, Copy)]
 pub(crate) struct Turn {
     pub s: Sizes,
     pub i: usize,

@@ -14,7 +14,7 @@ use crate::rings::is_stub;
 use crate::settle::{Turn, settle};
 
 // What is left when a side is tidied; `full` where one more turn is needed than is allowed.
-#[derive(Drop)]
+#[derive(Clone, Copy)]
 pub(crate) struct Tidied {
     pub full: bool,
     pub turns: usize,

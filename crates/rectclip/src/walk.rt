@@ -11,7 +11,7 @@ use plane::location::Location;
 use plane::point::Point64;
 
 // How many points, results and start sides the walk has put down.
-#[derive(Drop)]
+#[derive(Clone, Copy)]
 pub(crate) struct WalkState {
     pub points: usize,
     pub starts: usize,
@@ -19,7 +19,7 @@ pub(crate) struct WalkState {
 }
 
 // A step of the walk: how it stands afterwards, or a refusal.
-#[derive(Drop)]
+#[derive(Clone, Copy)]
 pub(crate) enum Step {
     Walked(WalkState),
     Refused(Refusal),

@@ -12,7 +12,7 @@ use text::reading::{Request, read_line};
 
 // The rectangle; the last drawing's line (0 before the first), how many bytes its answer has and how many were stored for it;
 // drawings and equal answers so far, the last one not counted; whether a write has failed, which ends the program.
-#[derive(Drop)]
+#[derive(Clone, Copy)]
 pub(crate) struct Replay {
     pub rect: Rect64,
     pub line: u64,

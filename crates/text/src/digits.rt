@@ -4,7 +4,7 @@ ghost use Rattle.text.specs.Decimal.{is_digit};
 ghost use Rattle.text.specs.Scanning.{digit_step, Spelled, Digit};
 
 // The number that digits stand for, or CAP where it is larger, and where they end.
-#[derive(Drop)]
+#[derive(Clone, Copy)]
 pub(crate) struct Spelling {
     pub value: u64,
     pub next: usize,

@@ -7,7 +7,7 @@ ghost use Rattle.text.specs.Scanning.{counted, leading, behind, leading_behind};
 use crate::number::{Entry, number_at};
 
 // Whether all fields are numbers, and how many there are.
-#[derive(Drop)]
+#[derive(Clone, Copy)]
 pub(crate) enum Numbers {
     Unreadable,
     Count(usize),

@@ -5,7 +5,7 @@ ghost use Rattle.text.specs.Scanning.{ends_at, signed_entry, digits_entry, entry
 use crate::digits::digits;
 
 // A field that is no number; or its number, and where the field ends.
-#[derive(Drop)]
+#[derive(Clone, Copy)]
 pub(crate) enum Entry {
     Missing,
     Whole(i64, usize),

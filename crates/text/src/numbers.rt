@@ -7,7 +7,7 @@ ghost use Rattle.text.specs.Putting.{room_after, Put};
 use crate::decimal::{put_signed, signed_length};
 
 // Too little room; or what is left of it.
-#[derive(Drop)]
+#[derive(Clone, Copy)]
 pub(crate) enum Room {
     Full,
     Left(usize),

@@ -7,7 +7,7 @@ use crate::fields::{Numbers, count_behind, store_behind};
 use plane::rect::Rect64;
 
 // Nothing that can be read; the rectangle of line 1; or a path: whether it is closed, and how many numbers it has.
-#[derive(Drop)]
+#[derive(Clone, Copy)]
 pub enum Request {
     Unreadable,
     Rectangle(Rect64),
