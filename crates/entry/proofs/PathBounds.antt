@@ -165,6 +165,8 @@ pub record Within (path : List Point64) (s : Rect64) : Type 0 where
 
 and_in : (a b : Bool) → T a → T b → T (a && b)
 and_in true true u v = tt
+and_in false b u v = elim u [ ]
+and_in true false u v = elim v [ ]
 
 and_out : (a b : Bool) → T (a && b) → T a × T b
 and_out true b t = (tt, t)

@@ -1,0 +1,14 @@
+-- `filled` meets its promise: the front of the list, where it holds so many points.
+use mathlib.Core.Path.{refl, sym}
+use Prim.Native.Nat.{◌*◌}
+use native.Mathlib.Omega.{arith}
+use lib.Seq.{length-take-le}
+use Rattle.entry.proofs.Parts.{part_held, part_none}
+use borrow.Author.Rules.{rules}
+use Rattle.entry.proofs.part.filled.Goals as goal
+
+pub returns-then-points-room : goal.returns-then-points-room
+returns-then-points-room c = record { entries = part_held c.args.coordinates.now c.args.points c.if-points-room.true; own = refl }
+
+pub returns : goal.returns
+returns c = record { entries = part_none c.args.coordinates.now c.args.points c.if-points-room.false; own = refl }
