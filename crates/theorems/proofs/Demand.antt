@@ -207,7 +207,7 @@ holds_at a (held h) = h
 
 module _ (P : Point64 → Type 0) where
   all_member : (ps : List Point64) → All P ps → (p : Point64) → Memᴰ p ps → P p
-  all_member [] h p m = absurd (Memᴰ.not_nil m)
+  all_member [] h p m = absurd (Memᴰ.not-nil m)
   all_member (x ∷ ps) h p m = go (Memᴰ.cases_cons m) (all_member ps h.1 p)
     where
       go : (p ≡ x) ⊎ Memᴰ p ps → (Memᴰ p ps → P p) → P p
@@ -215,7 +215,7 @@ module _ (P : Point64 → Type 0) where
       go (inr n) k = k n
 
   path_member : (qs : List (List Point64)) → AllPaths P qs → (q : List Point64) → Memᴰ q qs → All P q
-  path_member [] h q m = absurd (Memᴰ.not_nil m)
+  path_member [] h q m = absurd (Memᴰ.not-nil m)
   path_member (x ∷ qs) h q m = go (Memᴰ.cases_cons m) (path_member qs h.1 q)
     where
       go : (q ≡ x) ⊎ Memᴰ q qs → (Memᴰ q qs → All P q) → All P q
