@@ -30,7 +30,7 @@ use Rattle.plane.specs.Locations.{same_location, lower, upper}
 use Rattle.plane.specs.Intersection.{edge_intersection, side_intersection, get_intersection}
 use Rattle.reference.specs.Clip.{execute}
 use Rattle.reference.specs.Lines.{execute_lines}
-use Rattle.theorems.specs.Demand.{ExactCrossing, NearTo, Segment, onward, closing, turned, Source, input_point, corner_point, crossing, AtMostOneOutside, Sourced, Between, across}
+use Rattle.theorems.specs.Demand.{ExactCrossing, NearTo, Segment, onward, closing, turned, Source, input_point, corner_point, crossing, AtMostOneOutside, Sourced, Between}
 use Rattle.theorems.proofs.Holds.{Holds, held, either, All, all_at, holds_map, or_cases, guarded}
 use Rattle.theorems.proofs.Returned.{AllPaths, KeptPaths}
 use Rattle.theorems.proofs.Sources.{Hit, at_corner, at_crossing, Searches, closed_sources, open_sources}
