@@ -30,7 +30,7 @@ use Rattle.plane.specs.Locations.{same_location, lower, upper}
 use Rattle.plane.specs.Intersection.{edge_intersection, side_intersection, get_intersection}
 use Rattle.reference.specs.Clip.{execute}
 use Rattle.reference.specs.Lines.{execute_lines}
-use Rattle.theorems.specs.Demand.{ExactCrossing, NearTo, Segment, onward, closing, turned, Source, input_point, corner_point, crossing, AtMostOneOutside, Sourced, Between, across}
+use Rattle.theorems.specs.Demand.{ExactCrossing, NearTo, Segment, onward, closing, turned, Source, input_point, corner_point, crossing, AtMostOneOutside, Sourced, Between}
 use Rattle.theorems.proofs.Holds.{Holds, held, either, All, all_at, holds_map, or_cases, guarded}
 use Rattle.theorems.proofs.Returned.{AllPaths, KeptPaths}
 use Rattle.theorems.proofs.Sources.{Hit, at_corner, at_crossing, Searches, closed_sources, open_sources}
@@ -207,7 +207,7 @@ holds_at a (held h) = h
 
 module _ (P : Point64 → Type 0) where
   all_member : (ps : List Point64) → All P ps → (p : Point64) → Memᴰ p ps → P p
-  all_member [] h p m = absurd (Memᴰ.not_nil m)
+  all_member [] h p m = absurd (Memᴰ.not-nil m)
   all_member (x ∷ ps) h p m = go (Memᴰ.cases_cons m) (all_member ps h.1 p)
     where
       go : (p ≡ x) ⊎ Memᴰ p ps → (Memᴰ p ps → P p) → P p
@@ -215,7 +215,7 @@ module _ (P : Point64 → Type 0) where
       go (inr n) k = k n
 
   path_member : (qs : List (List Point64)) → AllPaths P qs → (q : List Point64) → Memᴰ q qs → All P q
-  path_member [] h q m = absurd (Memᴰ.not_nil m)
+  path_member [] h q m = absurd (Memᴰ.not-nil m)
   path_member (x ∷ qs) h q m = go (Memᴰ.cases_cons m) (path_member qs h.1 q)
     where
       go : (q ≡ x) ⊎ Memᴰ q qs → (Memᴰ q qs → All P q) → All P q

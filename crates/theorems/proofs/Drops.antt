@@ -16,7 +16,7 @@ use Rattle.theorems.specs.Bounds.{DropEnds}
 use Rattle.theorems.proofs.Ends.{more_of}
 use Rattle.theorems.proofs.RingLaw.{end, Ring, Distinct, turn, end_append}
 use Rattle.theorems.proofs.RingLaw as L
-use Rattle.theorems.proofs.Unlinked.{distinct, simple, without, to_back, front}
+use Rattle.theorems.proofs.Unlinked.{simple, without, to_back, front}
 use Rattle.theorems.proofs.Tests.{or_left, or_right}
 use Rattle.theorems.proofs.RingLists.{distinct_turn}
 

@@ -11,7 +11,7 @@ use Rattle.plane.specs.declared.rect.Rect64.{Rect64}
 use Rattle.plane.specs.Basics.{if◌then◌else◌, none, push, is_nil, upwards, ◌>>=◌}
 use Rattle.plane.specs.Rectangle.{is_empty, intersects, contains_rect, get_bounds_path, get_edges_for_pt}
 use Rattle.reference.specs.Walk.{Walked, walk_closed}
-use Rattle.reference.specs.Arena.{Arena, pt_of, prev_of, owner_of, edge_list, result_of, set_next, set_prev, set_results, set_result, set_edge_list, ring, is_flat, Round, drop_collinear_pass, drop_collinear, check_ring, check_from, check_edges}
+use Rattle.reference.specs.Arena.{Arena, add_to_edge, pt_of, prev_of, owner_of, edge_list, result_of, set_next, set_prev, set_results, set_result, set_edge_list, ring, is_flat, Round, drop_collinear_pass, drop_collinear, check_ring, check_from, check_edges}
 use Rattle.reference.specs.Tidy.{Four, Turn, turn, is_horz, cw_is_toward_larger, first_op, second_op, is_stub, four_of, overlap, relink, regroup, seek, settle, rejoin, one_turn, turns_from, tidy_edges}
 use Rattle.reference.specs.Clip.{enter_all, arena_of, get_path, get_paths, clip_walked, execute}
 use Rattle.theorems.specs.Sizes.{FewResults}
@@ -158,7 +158,7 @@ module _ (pts : List Point64) where
 enter_size : (a : Arena) (es : List (ℕ × ℕ)) → size (enter_all a es) ≡ size a
 unfolding enter_all
 enter_size a [] = refl
-enter_size a (e ∷ es) = enter_size _ es ∙ ap length (edge_links a e.0 e.1).results
+enter_size a (e ∷ es) = enter_size (add_to_edge a e.0 e.1) es ∙ ap length (edge_links a e.0 e.1).results
 
 one_size : (n : ℕ) → size (ring n) ≤ 1
 unfolding ring

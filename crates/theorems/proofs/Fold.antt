@@ -23,7 +23,7 @@ use Rattle.plane.specs.Rectangle.{beyond_or_on}
 use Rattle.plane.specs.Intersection.{get_intersection}
 use Rattle.reference.specs.Walk.{Walk, add, Next, next_side, next_outside, next_inside, get_next_location, State, Pass, remain_outside, cross_boundary, pt_before, pass_from, passes}
 use Rattle.theorems.proofs.Holds.{Holds, refused, held, bind, All, all_at, anything, holds_map}
-use Rattle.theorems.proofs.GeoPlane.{loc, Proper}
+use Rattle.theorems.proofs.GeoPlane.{Proper}
 use Rattle.theorems.proofs.GeoWalk.{Step, skip, stop, step}
 use Rattle.theorems.proofs.GeoProgress.{In, Stop, Steps, goes, halts, steps, skips_in}
 use Rattle.theorems.proofs.NextPoints.{Rest, rest_of, first_of, others_of}

@@ -18,7 +18,6 @@ use Rattle.plane.specs.Rectangle.{beyond, beyond_or_on}
 use Rattle.plane.specs.Intersection.{get_intersection}
 use Rattle.reference.specs.Walk.{add, next_side, State, Pass, remain_outside, cross_boundary}
 use Rattle.theorems.proofs.WalkOver.{walk_over}
-use Rattle.theorems.proofs.GeoPlane.{loc}
 use Rattle.theorems.proofs.GeoWalk.{Step, skip, stop, step}
 use Rattle.theorems.proofs.GeoProgress.{In, Stop, stop_clash}
 use Rattle.theorems.proofs.Passes.{stop_in}

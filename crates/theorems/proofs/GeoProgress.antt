@@ -15,7 +15,7 @@ use Rattle.theorems.proofs.GeoCut.{Depths}
 use Rattle.theorems.proofs.GeoSides.{Meets, around, twin_last}
 use Rattle.theorems.proofs.GeoAnswers.{Twin}
 use Rattle.theorems.proofs.GeoSearch.{Finds, Seek, own, next, rest, none, seek, Inner, Closed, Beyond, Outside, Along, Stays, stay, place}
-use Rattle.theorems.proofs.GeoWalk.{Step, skip, stop, step, located, on_edge, on_left, on_right, on_top, on_bottom, inside?, Calc, point}
+use Rattle.theorems.proofs.GeoWalk.{Step, skip, stop, step, located, on_edge, is_on_left, is_on_right, is_on_top, is_on_bottom, inside?, Calc, point}
 use Rattle.theorems.proofs.Tests.{never}
 
 -- ---- the region of a location: what get_next_location goes past
@@ -170,10 +170,10 @@ and_all e f g = λ i. (e i && f i) && g i
 
 pub located_in : (r : Rect64) (p : Point64) → In r (located r p) p × (Outside r p → inside? (located r p) ≡ false)
 located_in r p =
-    by_cond P (on_left r p) (λ e. (omega (zint, sub_pn p.x r.left, edge_eq p.x r.left (le_z r.top p.y) (le_z p.y r.bottom) e), λ o. refl)) λ nl.
-    by_cond P (on_right r p) (λ e. (omega (zint, sub_pn r.right p.x, edge_eq p.x r.right (le_z r.top p.y) (le_z p.y r.bottom) e), λ o. refl)) λ nr.
-    by_cond P (on_top r p) (λ e. (omega (zint, sub_pn p.y r.top, edge_eq p.y r.top (le_z r.left p.x) (le_z p.x r.right) e), λ o. refl)) λ nt.
-    by_cond P (on_bottom r p) (λ e. (omega (zint, sub_pn r.bottom p.y, edge_eq p.y r.bottom (le_z r.left p.x) (le_z p.x r.right) e), λ o. refl)) λ nb.
+    by_cond P (is_on_left r p) (λ e. (omega (zint, sub_pn p.x r.left, edge_eq p.x r.left (le_z r.top p.y) (le_z p.y r.bottom) e), λ o. refl)) λ nl.
+    by_cond P (is_on_right r p) (λ e. (omega (zint, sub_pn r.right p.x, edge_eq p.x r.right (le_z r.top p.y) (le_z p.y r.bottom) e), λ o. refl)) λ nr.
+    by_cond P (is_on_top r p) (λ e. (omega (zint, sub_pn p.y r.top, edge_eq p.y r.top (le_z r.left p.x) (le_z p.x r.right) e), λ o. refl)) λ nt.
+    by_cond P (is_on_bottom r p) (λ e. (omega (zint, sub_pn r.bottom p.y, edge_eq p.y r.bottom (le_z r.left p.x) (le_z p.x r.right) e), λ o. refl)) λ nb.
     by_cond P (lt_z p.x r.left) (λ e. (omega (zint, lt_of p.x r.left e, sub_pn p.x r.left), λ o. refl)) λ l.
     by_cond P (lt_z r.right p.x) (λ e. (omega (zint, lt_of r.right p.x e, sub_pn r.right p.x), λ o. refl)) λ t.
     by_cond P (lt_z p.y r.top) (λ e. (omega (zint, lt_of p.y r.top e, sub_pn p.y r.top), λ o. refl)) λ u.
@@ -189,7 +189,7 @@ located_in r p =
     all a b c d on_right = omega (zint, sub_pn r.right p.x)
     all a b c d on_bottom = omega (zint, sub_pn r.bottom p.y)
 
-    no_edge : on_left r p ≡ false → on_right r p ≡ false → on_top r p ≡ false → on_bottom r p ≡ false → r.left ≤ℤ p.x → p.x ≤ℤ r.right → r.top ≤ℤ p.y → p.y ≤ℤ r.bottom
+    no_edge : is_on_left r p ≡ false → is_on_right r p ≡ false → is_on_top r p ≡ false → is_on_bottom r p ≡ false → r.left ≤ℤ p.x → p.x ≤ℤ r.right → r.top ≤ℤ p.y → p.y ≤ℤ r.bottom
         → (s : Side) → Beyond r s p → ⊥
     no_edge nl nr nt nb a b c d on_left o = never (and_all (eq_eqZ p.x r.left (omega (zint, sub_pn p.x r.left))) (le_leZ r.top p.y c) (le_leZ p.y r.bottom d)) nl
     no_edge nl nr nt nb a b c d on_top o = never (and_all (eq_eqZ p.y r.top (omega (zint, sub_pn p.y r.top))) (le_leZ r.left p.x a) (le_leZ p.x r.right b)) nt
@@ -294,7 +294,7 @@ le_is a b e = leZ_true e
 
 -- a point on an edge is in the closed rectangle
 pub edge_closed : (r : Rect64) → Proper r → (p : Point64) → on_edge r p ≡ true → Closed r p
-edge_closed r k p e = go (or_cases (on_left r p) (on_right r p || (on_top r p || on_bottom r p)) e)
+edge_closed r k p e = go (or_cases (is_on_left r p) (is_on_right r p || (is_on_top r p || is_on_bottom r p)) e)
   where
     all : r.left ≤ℤ p.x → p.x ≤ℤ r.right → r.top ≤ℤ p.y → p.y ≤ℤ r.bottom → Closed r p
     all a b c d on_left = omega (zint, sub_pn p.x r.left)
@@ -312,14 +312,14 @@ edge_closed r k p e = go (or_cases (on_left r p) (on_right r p || (on_top r p ||
         let y : p.y ≡ c = edge_eq p.y c (le_z r.left p.x) (le_z p.x r.right) e in
         all (le_is r.left p.x (and_2 (eq_z p.y c) (le_z r.left p.x) (le_z p.x r.right) e)) (le_is p.x r.right (and_3 (eq_z p.y c) (le_z r.left p.x) (le_z p.x r.right) e)) (omega (zint, eq→ y)) (omega (zint, eq→ y))
 
-    go3 : (on_top r p ≡ true) ⊎ (on_bottom r p ≡ true) → Closed r p
+    go3 : (is_on_top r p ≡ true) ⊎ (is_on_bottom r p ≡ true) → Closed r p
     go3 (inl e) = level r.top (omega zint) (omega (zint, k.high)) e
     go3 (inr e) = level r.bottom (omega (zint, k.high)) (omega zint) e
 
-    go2 : (on_right r p ≡ true) ⊎ ((on_top r p || on_bottom r p) ≡ true) → Closed r p
+    go2 : (is_on_right r p ≡ true) ⊎ ((is_on_top r p || is_on_bottom r p) ≡ true) → Closed r p
     go2 (inl e) = upright r.right (omega (zint, k.wide)) (omega zint) e
-    go2 (inr e) = go3 (or_cases (on_top r p) (on_bottom r p) e)
+    go2 (inr e) = go3 (or_cases (is_on_top r p) (is_on_bottom r p) e)
 
-    go : (on_left r p ≡ true) ⊎ ((on_right r p || (on_top r p || on_bottom r p)) ≡ true) → Closed r p
+    go : (is_on_left r p ≡ true) ⊎ ((is_on_right r p || (is_on_top r p || is_on_bottom r p)) ≡ true) → Closed r p
     go (inl e) = upright r.left (omega zint) (omega (zint, k.wide)) e
-    go (inr e) = go2 (or_cases (on_right r p) (on_top r p || on_bottom r p) e)
+    go (inr e) = go2 (or_cases (is_on_right r p) (is_on_top r p || is_on_bottom r p) e)

@@ -22,31 +22,31 @@ step r Bottom p = cond (le_z r.bottom p.y) skip (stop (cond (le_z p.y r.top) Top
 step r Inside p = cond (lt_z p.x r.left) (stop Left) (cond (lt_z r.right p.x) (stop Right) (cond (lt_z r.bottom p.y) (stop Bottom) (cond (lt_z p.y r.top) (stop Top) skip)))
 
 -- ---- get_location: is the point on an edge; its location
-abbrev pub on_left : Rect64 → Point64 → Bool
-on_left r p = (eq_z p.x r.left && le_z r.top p.y) && le_z p.y r.bottom
+abbrev pub is_on_left : Rect64 → Point64 → Bool
+is_on_left r p = (eq_z p.x r.left && le_z r.top p.y) && le_z p.y r.bottom
 
-abbrev pub on_right : Rect64 → Point64 → Bool
-on_right r p = (eq_z p.x r.right && le_z r.top p.y) && le_z p.y r.bottom
+abbrev pub is_on_right : Rect64 → Point64 → Bool
+is_on_right r p = (eq_z p.x r.right && le_z r.top p.y) && le_z p.y r.bottom
 
-abbrev pub on_top : Rect64 → Point64 → Bool
-on_top r p = (eq_z p.y r.top && le_z r.left p.x) && le_z p.x r.right
+abbrev pub is_on_top : Rect64 → Point64 → Bool
+is_on_top r p = (eq_z p.y r.top && le_z r.left p.x) && le_z p.x r.right
 
-abbrev pub on_bottom : Rect64 → Point64 → Bool
-on_bottom r p = (eq_z p.y r.bottom && le_z r.left p.x) && le_z p.x r.right
+abbrev pub is_on_bottom : Rect64 → Point64 → Bool
+is_on_bottom r p = (eq_z p.y r.bottom && le_z r.left p.x) && le_z p.x r.right
 
 abbrev pub located : Rect64 → Point64 → Location
 located r p =
-    cond (on_left r p) Left
-    (cond (on_right r p) Right
-    (cond (on_top r p) Top
-    (cond (on_bottom r p) Bottom
+    cond (is_on_left r p) Left
+    (cond (is_on_right r p) Right
+    (cond (is_on_top r p) Top
+    (cond (is_on_bottom r p) Bottom
     (cond (lt_z p.x r.left) Left
     (cond (lt_z r.right p.x) Right
     (cond (lt_z p.y r.top) Top
     (cond (lt_z r.bottom p.y) Bottom Inside)))))))
 
 abbrev pub on_edge : Rect64 → Point64 → Bool
-on_edge r p = on_left r p || (on_right r p || (on_top r p || on_bottom r p))
+on_edge r p = is_on_left r p || (is_on_right r p || (is_on_top r p || is_on_bottom r p))
 
 -- ---- a pass of the outer loop, from where get_next_location stopped
 abbrev pub inside? : Location → Bool

@@ -31,7 +31,7 @@ use Rattle.theorems.specs.Bounds.{WalkEnds, LineWalkEnds}
 use Rattle.theorems.proofs.Holds.{Holds, held, bind, either, by_search, All, all_at, weaker, anything, holds_ok, by_second_search}
 use Rattle.theorems.proofs.Demand.{points_limited, not_empty_order}
 use Rattle.theorems.proofs.GeoPlane.{Side, on_left, on_top, on_right, on_bottom, loc, Proper}
-use Rattle.theorems.proofs.GeoWalk.{located, on_edge, on_left, on_right, on_top, on_bottom}
+use Rattle.theorems.proofs.GeoWalk.{located, on_edge, is_on_left, is_on_right, is_on_top, is_on_bottom}
 use Rattle.theorems.proofs.GeoProgress.{In, in_side, Stop, enters, passes as crosses, leaves, located_in, same_refl, edge_closed}
 use Rattle.theorems.proofs.PassSearches.{leave_in, through_in}
 use Rattle.theorems.proofs.NextPoints.{Reached, reached}
@@ -86,8 +86,8 @@ module _ (r : Rect64) (p : Point64) where
   on_edge_of : (get_location r p).off ≡ false → on_edge r p ≡ true
   unfolding get_location
   on_edge_of e =
-      go (on_left r p) (on_right r p) (on_top r p) (on_bottom r p) (lt_z p.x r.left) (lt_z r.right p.x) (lt_z p.y r.top) (lt_z r.bottom p.y)
-      (sym (off_is (on_left r p) _ _ _ (off_is (on_right r p) _ _ _ (off_is (on_top r p) _ _ _ (off_is (on_bottom r p) _ _ _ (off_is (lt_z p.x r.left) _ _ _ (off_is (lt_z r.right p.x) _ _ _ (off_is (lt_z p.y r.top) _ _ _ (off_is (lt_z r.bottom p.y) _ _ _ refl)))))))) ∙ e)
+      go (is_on_left r p) (is_on_right r p) (is_on_top r p) (is_on_bottom r p) (lt_z p.x r.left) (lt_z r.right p.x) (lt_z p.y r.top) (lt_z r.bottom p.y)
+      (sym (off_is (is_on_left r p) _ _ _ (off_is (is_on_right r p) _ _ _ (off_is (is_on_top r p) _ _ _ (off_is (is_on_bottom r p) _ _ _ (off_is (lt_z p.x r.left) _ _ _ (off_is (lt_z r.right p.x) _ _ _ (off_is (lt_z p.y r.top) _ _ _ (off_is (lt_z r.bottom p.y) _ _ _ refl)))))))) ∙ e)
     where
       go : (a b c d e f g h : Bool) → cond a false (cond b false (cond c false (cond d false (cond e true (cond f true (cond g true (cond h true true))))))) ≡ false → (a || (b || (c || d))) ≡ true
       go true b c d e f g h q = refl

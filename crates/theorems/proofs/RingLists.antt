@@ -28,6 +28,7 @@ all_end P a [] h = h.0
 all_end P a (x ∷ xs) h = all_end P x xs h.1
 
 pub all_in : (P : ℕ → Type 0) (u : ℕ) (xs : List ℕ) → All P xs → In u xs → P u
+all_in P u [] h k = elim k [ ]
 all_in P u (x ∷ xs) h (inl e) = subst P e h.0
 all_in P u (x ∷ xs) h (inr k) = all_in P u xs h.1 k
 
@@ -71,6 +72,7 @@ in_append u (x ∷ l) k (inl e) = inl (inl e)
 in_append u (x ∷ l) k (inr h) = ⊎_elim (λ w. inl (inr w)) (λ w. inr w) (in_append u l k h)
 
 pub in_left : (u : ℕ) (l k : List ℕ) → In u l → In u (l ++ k)
+in_left u [] k h = elim h [ ]
 in_left u (x ∷ l) k (inl e) = inl e
 in_left u (x ∷ l) k (inr h) = inr (in_left u l k h)
 
@@ -79,6 +81,7 @@ in_right u [] k h = h
 in_right u (x ∷ l) k h = inr (in_right u l k h)
 
 pub off_in : (u : ℕ) (xs : List ℕ) → Off u xs → In u xs → ⊥
+off_in u [] o h = elim h [ ]
 off_in u (x ∷ xs) o (inl e) = o.0 e
 off_in u (x ∷ xs) o (inr h) = off_in u xs o.1 h
 

@@ -279,6 +279,7 @@ area_one wt x [] = refl
 area_one wt x (y ∷ z) = sym (area_turn wt x y [] z)
 
 pub cut : (u : ℕ) (xs : List ℕ) → In u xs → (l : List ℕ) × (k : List ℕ) × (xs ≡ l ++ u ∷ k)
+cut u [] h = elim h [ ]
 cut u (x ∷ xs) (inl e) = ([], xs, ap (λ (z : ℕ). z ∷ xs) e)
 cut u (x ∷ xs) (inr h) = let r = cut u xs h in (x ∷ r.0, r.1, ap (λ (l : List ℕ). x ∷ l) r.2)
 

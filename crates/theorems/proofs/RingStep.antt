@@ -34,6 +34,7 @@ found_same x (y ∷ zs) [] f g h = absurd (g y (inl refl))
 found_same x (y ∷ zs) (w ∷ z) f g h = g x h
 
 pub found_of : (x : ℕ) (zs : List ℕ) → In x zs → Found x zs
+found_of x [] h = elim h [ ]
 found_of x (y ∷ zs) h = h
 
 -- a ring has a number below the number of rings

@@ -41,7 +41,7 @@ use Rattle.theorems.proofs.Entering.{entry_found}
 
 -- ---- members
 into : (i : ℕ) (xs : List ℕ) → Memᴰ i xs → In i xs
-into i [] m = absurd (Memᴰ.not_nil m)
+into i [] m = absurd (Memᴰ.not-nil m)
 into i (x ∷ xs) m = go (Memᴰ.cases_cons m) (into i xs)
   where
     go : (i ≡ x) ⊎ Memᴰ i xs → (Memᴰ i xs → In i xs) → In i (x ∷ xs)
@@ -49,6 +49,7 @@ into i (x ∷ xs) m = go (Memᴰ.cases_cons m) (into i xs)
     go (inr m) f = inr (f m)
 
 member : (i : ℕ) (xs : List ℕ) → In i xs → Memᴰ i xs
+member i [] h = elim h [ ]
 member i (x ∷ xs) (inl e) = Memᴰ.head (sym e)
 member i (x ∷ xs) (inr h) = Memᴰ.tail (member i xs h)
 
@@ -66,6 +67,7 @@ found_in x [] f h = absurd (h f)
 found_in x (y ∷ ys) f h = f
 
 in_found : (x i : ℕ) (xs : List ℕ) → In i xs → Found x xs → In x xs
+in_found x i [] h f = elim h [ ]
 in_found x i (y ∷ ys) h f = f
 
 module _ (wt : ℕ → ℕ → ℤ) (n : ℕ) (small : n ≤ none) (a : Arena) (rs : List (List ℕ)) (A : ℤ) (C : Core wt n (next_of a) (prev_of a) (owner_of a) (result_of a) rs A) (len : length a.results ≡ length rs) where
@@ -141,7 +143,7 @@ walk_rings : (pts : List Point64) (es : List (ℕ × ℕ)) → length pts ≤ no
 unfolding ring
 walk_rings [] es small =
     let L = enter_linked es (ring 0) in
-    let none_in : (i s : ℕ) → InRing [] i s → ⊥ = λ i s m. Memᴰ.not_nil m in
+    let none_in : (i s : ℕ) → InRing [] i s → ⊥ = λ i s m. Memᴰ.not-nil m in
     record {
       numbered = sym (ap length L.results);
       is_node = λ i s m. absurd (none_in i s m);

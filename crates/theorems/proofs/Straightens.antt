@@ -17,7 +17,7 @@ use Rattle.theorems.specs.Bounds as B
 use Rattle.theorems.specs.Bounds.{StraightenEnds}
 use Rattle.theorems.proofs.Ends.{more_of}
 use Rattle.theorems.proofs.RingLaw.{end, Ring, Distinct, turn}
-use Rattle.theorems.proofs.Unlinked.{distinct, simple, without, to_next, front}
+use Rattle.theorems.proofs.Unlinked.{simple, without, to_next, front}
 use Rattle.integers.specs.Tests.{cond_true}
 use Rattle.theorems.proofs.Tests.{or_left, or_right}
 use Rattle.theorems.proofs.RingLists.{distinct_turn}

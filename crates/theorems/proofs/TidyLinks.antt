@@ -177,6 +177,7 @@ own_stays (x ∷ xs) o new i l h =
 
 own_in : (xs : List ℕ) (o : List ℕ) (new i : ℕ) → i < length o → In i xs → at (own_list o xs new) i ≡ new
 unfolding own_list
+own_in [] o new i l h = elim h [ ]
 own_in (x ∷ xs) o new i l (inl e) =
     own_stays xs (set o x new) new i (subst (λ (k : ℕ). i < k) (sym (length-set o x new)) l) (subst (λ (k : ℕ). at (set o x new) k ≡ new) e (get_or-set_same o x new none (subst (λ (k : ℕ). k < length o) (sym e) l)))
 own_in (x ∷ xs) o new i l (inr h) = own_in xs (set o x new) new i (subst (λ (k : ℕ). i < k) (sym (length-set o x new)) l) h

@@ -137,6 +137,7 @@ in_set_list (l ∷ L) (suc e) zero x w h = inr h
 in_set_list (l ∷ L) (suc e) (suc e') x w h = ⊎_elim (λ m. inl (ap suc m.0, m.1)) (λ m. inr m) (in_set_list L e e' x w h)
 
 in_set : (l : List ℕ) (i x w : ℕ) → In x (set l i w) → (x ≡ w) ⊎ In x l
+in_set [] i x w h = elim h [ ]
 in_set (y ∷ l) zero x w (inl e) = inl (sym e)
 in_set (y ∷ l) zero x w (inr h) = inr (inr h)
 in_set (y ∷ l) (suc i) x w (inl e) = inr (inl e)

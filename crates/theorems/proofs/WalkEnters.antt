@@ -27,7 +27,7 @@ use Rattle.plane.specs.Polygon.{path1_contains_path2}
 use Rattle.reference.specs.Walk.{Walk, nothing_yet, add, add_all, Next, add_corner_loc, push_start_locs, next_side, next_outside, get_next_location, State, Pass, remain_outside, pt_before, pass_from, passes, last_off, add_round, surround, retrace, close_outline, after_while, walk_from, walk_closed}
 use Rattle.theorems.specs.Rings.{Entered}
 use Rattle.theorems.proofs.Holds.{Holds, refused, held, bind, either, by_search, anything, holds_map}
-use Rattle.theorems.proofs.FirstCrossing.{EntryFound, clash, found_side, NotIn, cross_out, remain_out, start_points, next_region, first, spot_region}
+use Rattle.theorems.proofs.FirstCrossing.{EntryFound, clash, found_side, NotIn, cross_out, remain_out, start_points, next_region, spot_region}
 use Rattle.theorems.proofs.Tests.{neither}
 
 -- ---- `lead`
