@@ -1,10 +1,6 @@
 -- `filled` meets its promise: the front of the list, where it holds so many points.
-use mathlib.Core.Path.{refl, sym}
-use Prim.Native.Nat.{◌*◌}
-use native.Mathlib.Omega.{arith}
-use lib.Seq.{length-take-le}
+use mathlib.Core.Path.{refl}
 use Rattle.entry.proofs.Parts.{part_held, part_none}
-use borrow.Author.Rules.{rules}
 use Rattle.entry.proofs.part.filled.Goals as goal
 
 pub returns-then-points-room : goal.returns-then-points-room
