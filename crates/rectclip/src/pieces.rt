@@ -4,7 +4,7 @@ ghost use Rattle.rectclip.specs.Walking.{walk_of, Fits};
 ghost use Rattle.rectclip.specs.Pieces.{paths_of, start_of, Tallied, Copies, Copied, Writes, Written};
 
 use crate::lists::{RESULT, get, point_at, put_point};
-use crate::walk::Walk_state;
+use crate::walk::WalkState;
 
 // How many paths are returned, and how many points they have.
 #[derive(Clone, Copy)]

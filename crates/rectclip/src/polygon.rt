@@ -9,7 +9,7 @@ ghost use Rattle.rectclip.specs.Scanned.{scan_of, step_of, passing_of, line_of, 
 
 use crate::lists::point_at;
 use crate::segment::cross_product_sign;
-use plane::location::Point_in_polygon_result;
+use plane::location::PointInPolygonResult;
 use plane::point::Point64;
 
 // The variables of the scan round the polygon.

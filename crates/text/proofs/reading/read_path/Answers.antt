@@ -1,0 +1,10 @@
+-- `text::reading::read_path` meets its contract. Assumes nothing.
+use Rattle.text.specs.Scanning.{behind}
+use mathlib.Core.Path.{sym, ◌∙◌}
+use Rattle.text.proofs.Lines.{path_none, path_read}
+use borrow.Author.Rules.{rules}
+use Rattle.text.proofs.reading.read_path.Goals as goal
+
+pub returns : goal.returns
+returns c =
+    path_read c.args.closed c.args.line.now c.args.list.now _ _ (sym c.in-Count.is ∙ c.count_behind-n.ensures) c.store_behind.ensures
