@@ -1,4 +1,6 @@
 // The clip program's lines: reading one into a request, writing answers, and comparing them.
+#![tactic(auto)]
+
 pub mod comparing;
 mod decimal;
 mod digits;

@@ -1,9 +1,7 @@
 -- `text::comparing::same_bytes` meets its contract. Assumes nothing.
 use Prim.Native.Nat.{◌-◌}
-use native.Mathlib.Omega.{arith}
 use lib.ListN.{length}
-use Rattle.text.proofs.Compared.{SameTo, other_length, same_start, entries_differ, same_again, all_same}
-use borrow.Author.Rules.{rules}
+use Rattle.text.proofs.Compared.{SameTo}
 use Rattle.text.proofs.comparing.same_bytes.Given as goal
 
 abbrev pub invariant-loop-i : goal.invariant-loop-i

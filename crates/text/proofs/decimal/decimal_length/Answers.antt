@@ -1,8 +1,5 @@
 -- `text::decimal::decimal_length` meets its contract: the loop counts as `places` does. Assumes nothing.
-use borrow.Author.Rules.{rules}
-use native.Mathlib.Omega.{arith}
-use Prim.Native.Nat.{◌-◌}
-use Rattle.text.proofs.DigitLoops.{PlacesTo, places_start, places_again, places_less, places_end}
+use Rattle.text.proofs.DigitLoops.{places_start, places_again, places_end}
 use Rattle.text.proofs.decimal.decimal_length.Goals as goal
 
 pub loop-count-init : goal.loop-count-init

@@ -1,8 +1,6 @@
 -- `text::decimal::decimal_length` meets its contract: the loop counts as `places` does. Assumes nothing.
-use borrow.Author.Rules.{rules}
-use native.Mathlib.Omega.{arith}
 use Prim.Native.Nat.{◌-◌}
-use Rattle.text.proofs.DigitLoops.{PlacesTo, places_start, places_again, places_less, places_end}
+use Rattle.text.proofs.DigitLoops.{PlacesTo}
 use Rattle.text.proofs.decimal.decimal_length.Given as goal
 
 abbrev pub invariant-loop-count : goal.invariant-loop-count

@@ -1,7 +1,6 @@
 -- `text::decimal::put_decimal` meets its contract. Assumes nothing.
 use native.Mathlib.Omega.{arith}
 use Rattle.text.proofs.Puts.{put_digits, digits_room}
-use borrow.Author.Rules.{rules}
 use Rattle.text.proofs.decimal.put_decimal.Goals as goal
 
 pub put_last_digits-requires : goal.put_last_digits-requires

@@ -1,6 +1,6 @@
 -- `text::decimal::put_last_digits` meets its contract: the digits from the last on. Assumes nothing.
 use borrow.Author.Rules.{rules}
-use Rattle.text.proofs.DigitLoops.{DigitsTo, digits_start, digits_again, digits_end}
+use Rattle.text.proofs.DigitLoops.{digits_again}
 use Rattle.text.proofs.decimal.put_last_digits.Goals as goal
 
 pub loop-left-preserved : goal.loop-left-preserved

@@ -1,6 +1,5 @@
 -- `text::decimal::put_last_digits` meets its contract: the digits from the last on. Assumes nothing.
-use borrow.Author.Rules.{rules}
-use Rattle.text.proofs.DigitLoops.{DigitsTo, digits_start, digits_again, digits_end}
+use Rattle.text.proofs.DigitLoops.{DigitsTo}
 use Rattle.text.proofs.decimal.put_last_digits.Given as goal
 
 abbrev pub invariant-loop-left : goal.invariant-loop-left

@@ -1,9 +1,7 @@
 -- `text::digits::digits` meets its contract: the loop is `spell`, a byte at a time.
 use mathlib.Core.Path.{sym, ◌∙◌}
-use Prim.Native.Nat.{◌-◌}
-use lib.ListN.{length}
 use borrow.Author.Rules.{rules}
-use Rattle.text.proofs.Spelling.{SpelledTo, to_start, to_more, to_stop, to_end, digit_from}
+use Rattle.text.proofs.Spelling.{to_more, to_stop, to_end}
 use Rattle.text.proofs.digits.digits.Goals as goal
 
 pub loop-next-preserved : goal.loop-next-preserved

@@ -1,9 +1,7 @@
 -- `text::digits::digits` meets its contract: the loop is `spell`, a byte at a time.
-use mathlib.Core.Path.{sym, ◌∙◌}
 use Prim.Native.Nat.{◌-◌}
 use lib.ListN.{length}
-use borrow.Author.Rules.{rules}
-use Rattle.text.proofs.Spelling.{SpelledTo, to_start, to_more, to_stop, to_end, digit_from}
+use Rattle.text.proofs.Spelling.{SpelledTo}
 use Rattle.text.proofs.digits.digits.Given as goal
 
 abbrev pub invariant-loop-next : goal.invariant-loop-next

@@ -1,9 +1,7 @@
 -- `text::fields::count_numbers` meets its contract: the loop counts a field at a time. Assumes nothing.
-use mathlib.Core.Path.{sym, ◌∙◌}
-use borrow.Author.Rules.{rules}
 use Prim.Native.Nat.{◌-◌}
 use lib.ListN.{length}
-use Rattle.text.proofs.FieldList.{Found, CountedTo, count_start, count_missing, count_last, count_again, found}
+use Rattle.text.proofs.FieldList.{CountedTo}
 use Rattle.text.proofs.fields.count_numbers.Given as goal
 
 abbrev pub invariant-loop-next : goal.invariant-loop-next

@@ -1,7 +1,6 @@
 -- `text::number::digits_at` meets its contract. Assumes nothing.
 use mathlib.Core.Path.{sym, ◌∙◌}
 use Rattle.text.proofs.FieldAt.{at_none, at_broken, at_read}
-use borrow.Author.Rules.{rules}
 use Rattle.text.proofs.number.digits_at.Goals as goal
 
 pub returns-then-next-at : goal.returns-then-next-at

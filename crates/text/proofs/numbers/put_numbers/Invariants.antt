@@ -1,13 +1,7 @@
 -- `text::numbers::put_numbers` meets its contract: the loop puts a number at a time. Assumes nothing.
-use borrow.Author.Rules.{rules}
-use mathlib.Core.Path.{◌≡◌}
 use Prim.Native.Nat.{◌-◌}
-use lib.ListN.{length, get_or}
-use lib.IntN.{pos}
-use mir.Syntax.{w64}
-use mir.Val.{SFits, to_z, of_z}
-use mir.Facts.{to_z-of_z}
-use Rattle.text.proofs.Puts.{PutTo, puts_start, puts_room, puts_again, puts_end}
+use lib.ListN.{length}
+use Rattle.text.proofs.Puts.{PutTo}
 use Rattle.text.proofs.numbers.put_numbers.Given as goal
 
 abbrev pub invariant-loop-i : goal.invariant-loop-i

@@ -1,8 +1,6 @@
 -- `text::reading::read_path` meets its contract. Assumes nothing.
-use Rattle.text.specs.Scanning.{behind}
 use mathlib.Core.Path.{sym, ◌∙◌}
-use Rattle.text.proofs.Lines.{path_none, path_read}
-use borrow.Author.Rules.{rules}
+use Rattle.text.proofs.Lines.{path_read}
 use Rattle.text.proofs.reading.read_path.Goals as goal
 
 pub returns : goal.returns

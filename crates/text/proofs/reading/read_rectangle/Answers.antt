@@ -4,15 +4,14 @@ use lib.IntN.{pos}
 use mir.Syntax.{w64}
 use mir.Val.{SFits}
 use mir.Facts.{to_z-of_z}
-use Rattle.text.specs.Scanning.{behind}
 use mathlib.Core.Path.{sym, ◌∙◌}
-use Rattle.text.proofs.Lines.{rectangle_none, rectangle_other, rectangle_read}
+use Rattle.text.proofs.Lines.{rectangle_read}
 use borrow.Author.Rules.{rules}
 use Rattle.text.proofs.reading.read_rectangle.Goals as goal
 
 pub returns-then-k-eq4 : goal.returns-then-k-eq4
 returns-then-k-eq4 c =
-    let four = c.store_behind.last.1.0 in
+    let four = c.store_behind.new.list in
     let f0 : SFits w64 (get_or four 0 (pos 0)) = search rules in
     let f1 : SFits w64 (get_or four 1 (pos 0)) = search rules in
     let f2 : SFits w64 (get_or four 2 (pos 0)) = search rules in

@@ -1,7 +1,7 @@
 -- `text::writing::put_line` meets its contract. Assumes nothing.
 use native.Mathlib.Omega.{arith}
 use lib.ListN.{length-set}
-use Rattle.text.proofs.Puts.{line_length, tail_room, feed_room, feed_within, line_put, put_kept}
+use Rattle.text.proofs.Puts.{line_length, tail_room, feed_room, feed_within, line_put}
 use borrow.Author.Rules.{rules}
 use Rattle.text.proofs.writing.put_line.Goals as goal
 

@@ -9,7 +9,6 @@ use Rattle.text.specs.declared.numbers.Room.TheVariants.{Left}
 use Rattle.text.specs.Printing.{comma_numbers, line_of}
 use Rattle.text.specs.Putting.{room_after}
 use Rattle.text.proofs.Puts.{line_length, room_full_is, room_left_is, written_none, written_all}
-use borrow.Author.Rules.{rules}
 use Rattle.text.proofs.writing.write_line.Goals as goal
 
 -- both lists fit behind the letter, with the line feed
