@@ -100,8 +100,8 @@ module _ (pts : List Point64) {N k : ℕ} where
 
   pub spare_dropped : {a : Arena} → Spare N k a → (left op x : ℕ) → Spare N k (drop_collinear pts left a op x).arena
   unfolding drop_collinear
-  spare_dropped S zero op x = S
+  spare_dropped {a} S zero op x = S
   spare_dropped {a} S (suc left) op x =
       let d = drop_collinear_pass pts a op x in
       by_test (eqb d.op2 none || eqb d.op2 d.op) (λ b. Spare N k (if b then d else drop_collinear pts left d.arena d.op d.op2).arena)
-      (spare_drop_pass S op x) (spare_dropped (spare_drop_pass S op x) left d.op d.op2)
+      (spare_drop_pass S op x) (spare_dropped {a = d.arena} (spare_drop_pass S op x) left d.op d.op2)

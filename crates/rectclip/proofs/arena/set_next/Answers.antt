@@ -1,0 +1,8 @@
+-- `rectclip::arena::set_next` meets its contract: the cell stored is the arena's entry.
+use Rattle.rectclip.proofs.Stores.{stored_next}
+use borrow.Author.Rules.{rules}
+use Rattle.rectclip.proofs.arena.set_next.Goals as goal
+
+pub returns : goal.returns
+returns c =
+    rw c.store.ensures (stored_next c.args.work.now c.args.s c.requires.0 c.args.i c.args.v c.requires.1 c.requires.2)

@@ -1,0 +1,13 @@
+-- `pass_start` meets its contract, by `push_start_loc`. Assumes nothing.
+use Rattle.plane.specs.Rectangle.{no_bounds}
+use Rattle.rectclip.proofs.ClosedPass.{start_pushed, start_kept}
+use borrow.Author.Rules.{rules}
+use Rattle.rectclip.proofs.closed.pass_start.Goals as goal
+
+pub returns-then-is_inside : goal.returns-then-is_inside
+returns-then-is_inside c =
+    start_pushed no_bounds c.args.store.now c.args.work.now c.args.s c.args.first_cross c.args.prev c.is_inside.ensures c.if-is_inside.true c.push_start_loc.ensures
+
+pub returns : goal.returns
+returns c =
+    start_kept no_bounds c.args.store.now c.args.work.now c.args.s c.args.first_cross c.args.prev c.is_inside.ensures c.requires c.if-is_inside.false

@@ -1,0 +1,12 @@
+-- `passes` meets its contract: what is left to do after each pass comes to what there was to do at first. Assumes nothing.
+use borrow.Author.Rules.{rules}
+use native.Mathlib.Omega.{arith}
+use mathlib.Core.Path.{◌∙◌}
+use Rattle.rectclip.proofs.ClosedPasses.{ClosedGoing, passes_start, passes_past, passes_lost, passes_again, passes_done}
+use Rattle.rectclip.proofs.closed.passes.Given as goal
+
+abbrev pub invariant-loop-left : goal.invariant-loop-left
+invariant-loop-left l = ClosedGoing l.rect l.path l.initial.store l.initial.work l.initial.s l.store l.work l.s l.left
+
+abbrev pub decreases-loop-left : goal.decreases-loop-left
+decreases-loop-left l = l.left

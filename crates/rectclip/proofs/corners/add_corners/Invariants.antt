@@ -1,0 +1,14 @@
+-- `add_corners` meets its contract: each turn adds a corner, until the walk has come to `loc`.
+use mathlib.Core.Path.{◌∙◌}
+use Rattle.rectclip.proofs.Turning.{RoundGoing, corner_round, round_start, round_lost, round_met, round_again, round_done}
+use native.Mathlib.Omega.{arith}
+use Prim.Native.Nat.{◌/◌}
+use Rattle.reference.specs.Walk.{no_room, add_corners}
+use borrow.Author.Rules.{rules}
+use Rattle.rectclip.proofs.corners.add_corners.Given as goal
+
+abbrev pub invariant-loop-left : goal.invariant-loop-left
+invariant-loop-left l = RoundGoing (λ L left w p. add_corners (no_room (L / 2)) l.rect left w p l.loc l.is_clockwise) l.initial.store l.initial.work l.initial.w l.initial.p l.store l.work l.w l.p l.left
+
+abbrev pub decreases-loop-left : goal.decreases-loop-left
+decreases-loop-left l = l.left

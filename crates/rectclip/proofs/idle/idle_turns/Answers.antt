@@ -1,0 +1,15 @@
+-- `rectclip::idle::idle_turns` meets its contract: the turns at one clockwise entry, and one turn to the next entry.
+use native.Mathlib.Omega.{arith}
+use Prim.Native.Nat.{◌*◌, ◌-◌}
+use borrow.Author.Tests.{not-false}
+use Rattle.rectclip.specs.Arenas.{arena_at}
+use Rattle.rectclip.specs.Stored.{points_in}
+use Rattle.rectclip.specs.Turns.{Idled}
+use Rattle.rectclip.proofs.Turns.{root_in}
+use Rattle.rectclip.proofs.Idling.{may_idle, idled_start, idled_on, idled_end}
+use Rattle.rectclip.proofs.idle.idle_turns.Goals as goal
+
+pub loop-i-preserved : goal.loop-i-preserved
+loop-i-preserved c =
+    let may = may_idle c.requires c.loop-i-test.true c.entry_of.result c.entry_of.ensures c.is_live.result c.is_live.ensures (not-false c.is_live.result c.if-not-is_live.false) in
+    idled_end may (idled_on c.loop-i.invariant c.idle_along-at.ensures) (omega (arith, c.if-left-eq0.false)) c.entry_of.result c.entry_of.ensures c.if-j-other.false

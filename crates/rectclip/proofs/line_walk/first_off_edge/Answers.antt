@@ -1,0 +1,17 @@
+-- `first_off_edge` meets its contract: the search from point `i` on is the search from the second on.
+use mathlib.Core.Path.{refl}
+use Prim.Native.Nat.{◌-◌}
+use Rattle.rectclip.proofs.Passing.{Seeking, seek_found, seek_again, seek_ends}
+use borrow.Author.Rules.{rules}
+use Rattle.rectclip.proofs.line_walk.first_off_edge.Goals as goal
+
+pub returns-then-spot : goal.returns-then-spot
+returns-then-spot c =
+    seek_found c.loop-i.invariant c.loop-i-test.true c.point_at-p.ensures c.get_location-spot.ensures c.if-spot.true
+
+pub loop-i-preserved : goal.loop-i-preserved
+loop-i-preserved c =
+    seek_again c.loop-i.invariant c.loop-i-test.true c.point_at-p.ensures c.get_location-spot.ensures c.if-spot.false
+
+pub returns : goal.returns
+returns c = seek_ends c.loop-i.invariant c.loop-i-test.false

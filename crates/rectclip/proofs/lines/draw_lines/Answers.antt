@@ -1,0 +1,25 @@
+-- `draw_lines` meets its contract: an empty rectangle, bounds that miss it, and the walk.
+use mathlib.Core.Path.{sym, ◌∙◌, ap}
+use Prim.Native.Nat.{◌/◌}
+use lib.ListN.{length}
+use borrow.Author.Tests.{not-true, not-false}
+use Rattle.plane.specs.Rectangle.{intersects}
+use Rattle.rectclip.proofs.Walking.{walked_is, refused_is}
+use Rattle.rectclip.proofs.Entering.{line_empty, line_missed, line_walked, line_refused, leaves_none, leaves_drawing, leaves_refusal}
+use borrow.Author.Rules.{rules}
+use Rattle.rectclip.proofs.lines.draw_lines.Goals as goal
+
+pub returns-then-is_empty : goal.returns-then-is_empty
+returns-then-is_empty c = leaves_none c.args.coordinates.now c.args.lengths.now c.args.store.now c.args.work.now (line_empty c.args.rect c.args.path.now (length c.args.store.now / 2) (sym c.is_empty.ensures ∙ c.if-is_empty.true)) c.no_paths.ensures
+
+pub returns-then-not-intersects : goal.returns-then-not-intersects
+returns-then-not-intersects c =
+    leaves_none c.args.coordinates.now c.args.lengths.now c.args.store.now c.args.work.now (line_missed c.args.rect c.args.path.now (length c.args.store.now / 2) (sym c.is_empty.ensures ∙ c.if-is_empty.false) (sym (c.intersects.ensures ∙ ap (intersects c.args.rect) c.requires.bound) ∙ c.if-not-intersects.true)) c.no_paths-then-not-intersects.ensures
+
+pub returns-in-Walked : goal.returns-in-Walked
+returns-in-Walked c =
+    leaves_drawing c.args.coordinates.now c.args.lengths.now c.args.store.now c.args.work.now _ (line_walked c.args.rect c.args.path.now (length c.args.store.now / 2) (sym c.is_empty.ensures ∙ c.if-is_empty.false) (sym (c.intersects.ensures ∙ ap (intersects c.args.rect) c.requires.bound) ∙ c.if-not-intersects.false) _ (walked_is c.Line_walk.ensures c.in-Walked.is)) c.deliver_lines.ensures
+
+pub returns-in-Refused : goal.returns-in-Refused
+returns-in-Refused c =
+    leaves_refusal c.args.coordinates.now c.args.lengths.now c.args.store.now c.args.work.now _ (line_refused c.args.rect c.args.path.now (length c.args.store.now / 2) (sym c.is_empty.ensures ∙ c.if-is_empty.false) (sym (c.intersects.ensures ∙ ap (intersects c.args.rect) c.requires.bound) ∙ c.if-not-intersects.false) _ (refused_is c.Line_walk.ensures c.in-Refused.is))

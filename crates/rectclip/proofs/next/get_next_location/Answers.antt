@@ -1,0 +1,13 @@
+-- `get_next_location` meets its contract, from inside and from outside.
+use mathlib.Core.Path.{sym, ◌∙◌}
+use Rattle.rectclip.proofs.Scanning.{next_as_inside}
+use Rattle.rectclip.proofs.Moving.{outside_moved}
+use borrow.Author.Rules.{rules}
+use Rattle.rectclip.proofs.next.get_next_location.Goals as goal
+
+pub returns-then-is_inside : goal.returns-then-is_inside
+returns-then-is_inside c =
+    rw (← next_as_inside _ c.args.rect _ _ c.args.s.loc c.args.s.i (sym c.is_inside.ensures ∙ c.if-is_inside.true)) c.next_inside.ensures
+
+pub returns : goal.returns
+returns c = outside_moved c.args.rect c.args.path.now c.args.s.loc c.args.s.i (sym c.is_inside.ensures ∙ c.if-is_inside.false) c.requires.fits c.next_outside-met.ensures

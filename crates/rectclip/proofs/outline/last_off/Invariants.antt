@@ -1,0 +1,11 @@
+-- `last_off` meets its contract: the search backwards. Assumes nothing.
+use borrow.Author.Rules.{rules}
+use native.Mathlib.Omega.{arith}
+use Rattle.rectclip.proofs.ClosedWalk.{Seeking, seek_start, seek_found, seek_again, seek_ends}
+use Rattle.rectclip.proofs.outline.last_off.Given as goal
+
+abbrev pub invariant-loop-i : goal.invariant-loop-i
+invariant-loop-i l = Seeking l.rect l.path l.n l.i
+
+abbrev pub decreases-loop-i : goal.decreases-loop-i
+decreases-loop-i l = l.i

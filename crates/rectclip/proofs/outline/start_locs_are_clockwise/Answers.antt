@@ -1,0 +1,12 @@
+-- `start_locs_are_clockwise` meets its contract: steps counted each way come to the definition's sum. Assumes nothing.
+use Prim.Native.Nat.{◌-◌}
+use native.Mathlib.Omega.{arith}
+use Rattle.rectclip.proofs.StartSides.{Counting, count_start, count_again, count_done}
+use Rattle.rectclip.proofs.outline.start_locs_are_clockwise.Goals as goal
+
+pub loop-i-preserved : goal.loop-i-preserved
+loop-i-preserved c =
+    count_again c.loop-i.invariant c.loop-i-test.true c.start_loc.ensures c.start_loc-in-loop-i.ensures c.turned_by-t.ensures
+
+pub returns : goal.returns
+returns c = count_done c.loop-i.invariant c.loop-i-test.false

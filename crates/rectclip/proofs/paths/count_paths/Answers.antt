@@ -1,0 +1,13 @@
+-- `rectclip::paths::count_paths` meets its contract: the results in their order.
+use native.Mathlib.Omega.{arith}
+use Prim.Native.Nat.{◌-◌}
+use Rattle.rectclip.proofs.Counting.{CountingAll, all_start, all_again, all_counted}
+use Rattle.rectclip.proofs.paths.count_paths.Goals as goal
+
+pub loop-i-preserved : goal.loop-i-preserved
+loop-i-preserved c =
+    let count_result = c.count_result-so_far in
+    all_again c.loop-i.invariant c.loop-i-test.true count_result.result count_result.ensures
+
+pub returns : goal.returns
+returns c = all_counted c.loop-i.invariant c.loop-i-test.false

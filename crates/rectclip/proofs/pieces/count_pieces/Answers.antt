@@ -1,0 +1,16 @@
+-- `count_pieces` meets its contract: the results up to `j` are counted, and their points.
+use Prim.Native.Nat.{◌-◌}
+use native.Mathlib.Omega.{arith}
+use Rattle.rectclip.proofs.Results.{Counting, counting_none, count_more, count_same, count_fits, count_done}
+use borrow.Author.Rules.{rules}
+use Rattle.rectclip.proofs.pieces.count_pieces.Goals as goal
+
+pub loop-j-preserved-then-from-to : goal.loop-j-preserved-then-from-to
+loop-j-preserved-then-from-to c =
+    count_more c.requires c.loop-j.invariant c.loop-j-test.true c.start_of-from.ensures c.start_of-to.ensures c.if-from-to.true
+
+pub loop-j-preserved : goal.loop-j-preserved
+loop-j-preserved c = ?
+
+pub returns : goal.returns
+returns c = count_done (c.requires) c.loop-j.invariant c.loop-j-test.false

@@ -1,0 +1,12 @@
+-- `count_pieces` meets its contract: the results up to `j` are counted, and their points.
+use Prim.Native.Nat.{◌-◌}
+use native.Mathlib.Omega.{arith}
+use Rattle.rectclip.proofs.Results.{Counting, counting_none, count_more, count_same, count_fits, count_done}
+use borrow.Author.Rules.{rules}
+use Rattle.rectclip.proofs.pieces.count_pieces.Given as goal
+
+abbrev pub invariant-loop-j : goal.invariant-loop-j
+invariant-loop-j l = Counting l.store l.work l.s l.paths l.points l.j
+
+abbrev pub decreases-loop-j : goal.decreases-loop-j
+decreases-loop-j l = l.starts - l.j

@@ -1,0 +1,18 @@
+-- `scan_loop` meets its contract: it counts as the definition does. Assumes nothing.
+use mathlib.Core.Path.{◌≡◌, refl, sym, ap, ◌∙◌, subst}
+use Prim.Native.Nat.{◌/◌}
+use borrow.Author.Rules.{rules}
+use native.Mathlib.Omega.{arith}
+use lib.ListN.{length}
+use Rattle.plane.specs.Points.{points_of}
+use Rattle.plane.specs.Polygon.{scan_loop}
+use Rattle.rectclip.specs.Scanned.{scan_of, step_of, InScan, Scanning}
+use Rattle.rectclip.proofs.ScanPasses.{loop_on, loop_stops, loop_goes_on, loop_ends}
+use Rattle.rectclip.proofs.polygon.scan_loop.Given as goal
+
+abbrev pub invariant-loop-left : goal.invariant-loop-left
+invariant-loop-left l =
+    (scan_loop l.pt (points_of l.polygon) l.first_idx l.left l.starting_above (scan_of l.s) ≡ scan_loop l.pt (points_of l.polygon) l.first_idx l.initial.left l.starting_above (scan_of l.initial.s)) × InScan (length l.polygon / 2) l.s
+
+abbrev pub decreases-loop-left : goal.decreases-loop-left
+decreases-loop-left l = l.left

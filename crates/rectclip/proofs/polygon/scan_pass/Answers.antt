@@ -1,0 +1,23 @@
+-- `scan_pass` meets its contract, way by way. Assumes nothing.
+use lib.ListN.{length}
+use mathlib.Core.Path.{◌≡◌, refl}
+use mathlib.Core.Bool.{Bool, true, false, ◌||◌}
+use Prim.Native.Nat.{ℕ, ◌/◌, ◌≤◌, ◌<◌}
+use native.Mathlib.Omega.{arith}
+use lib.Dec.{eqb}
+use borrow.Author.Tests.{eqb-false}
+use Rattle.plane.specs.Basics.{if◌then◌else◌}
+use Rattle.rectclip.proofs.ScanPasses.{pass_stops, pass_skips, pass_vertex}
+use borrow.Author.Rules.{rules}
+use Rattle.rectclip.proofs.polygon.scan_pass.Goals as goal
+
+pub returns-then-at_end-s : goal.returns-then-at_end-s
+returns-then-at_end-s c = (pass_stops c.args.pt c.args.polygon.now c.args.first_idx c.args.s c.if-at_end-s.true, record { index = c.requires.index; bit = c.requires.bit })
+
+pub returns-then-i-n : goal.returns-then-i-n
+returns-then-i-n c =
+    (pass_skips c.args.pt c.args.polygon.now c.args.first_idx c.args.s c.if-at_end-s.false c.start_from-from.ensures c.skipped-i.ensures.0 c.if-i-n.true, record { index = c.skipped-i.ensures.1; bit = c.requires.bit })
+
+pub returns : goal.returns
+returns c =
+    (pass_vertex c.args.pt c.args.polygon.now c.args.first_idx c.args.s c.if-at_end-s.false c.start_from-from.ensures c.skipped-i.ensures.0 c.if-i-n.false c.at_vertex.ensures.0, c.at_vertex.ensures.1)

@@ -1,0 +1,12 @@
+-- `rectclip::regroup::regroup` meets its contract, one law for each way.
+use Rattle.rectclip.proofs.Turns.{groups_joined, groups_split}
+use borrow.Author.Rules.{rules}
+use Rattle.rectclip.proofs.regroup.regroup.Goals as goal
+
+pub returns-then-rejoining : goal.returns-then-rejoining
+returns-then-rejoining c =
+    groups_joined c.args.idx c.args.f c.args.rejoining c.if-rejoining.true c.join.ensures
+
+pub returns : goal.returns
+returns c =
+    groups_split c.args.idx c.args.f c.args.rejoining c.if-rejoining.false c.split.ensures

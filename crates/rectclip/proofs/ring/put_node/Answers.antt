@@ -1,0 +1,8 @@
+-- `rectclip::ring::put_node` meets its contract: the four cells stored are the node's.
+use Rattle.rectclip.proofs.Building.{placed_node}
+use borrow.Author.Rules.{rules}
+use Rattle.rectclip.proofs.ring.put_node.Goals as goal
+
+pub returns : goal.returns
+returns c =
+    rw (c.store-4.ensures, c.store-3.ensures, c.store-2.ensures, c.store.ensures) (placed_node c.args.work.now c.args.i c.args.next c.args.prev c.requires.0)

@@ -1,0 +1,12 @@
+-- `rectclip::tidy::take_turns` meets its contract: the loop takes the definition's turns, and is left where it is.
+use native.Mathlib.Omega.{arith}
+use borrow.Author.Rules.{rules}
+use borrow.Author.Tests.{not-true, not-false}
+use Rattle.rectclip.proofs.Tidying.{Tidying, tidying_start, tidying_may, tidying_idle, tidying_stop, tidying_out, tidying_full, tidying_in, tidying_again}
+use Rattle.rectclip.proofs.tidy.take_turns.Given as goal
+
+abbrev pub invariant-loop-left : goal.invariant-loop-left
+invariant-loop-left l = Tidying l.store l.idx l.allowance l.initial.at.s l.turns l.initial.work l.work l.at l.left
+
+abbrev pub decreases-loop-left : goal.decreases-loop-left
+decreases-loop-left l = l.left

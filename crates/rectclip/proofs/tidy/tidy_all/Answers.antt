@@ -1,0 +1,9 @@
+-- `rectclip::tidy::tidy_all` meets its contract: the four sides in their order.
+use native.Mathlib.Omega.{arith}
+use Rattle.rectclip.proofs.Tidying.{may_go_on, all_sides}
+use borrow.Author.Rules.{rules}
+use Rattle.rectclip.proofs.tidy.tidy_all.Goals as goal
+
+pub returns : goal.returns
+returns c =
+    all_sides c.args.store.now c.tidy_edges-left.ensures c.then_tidy-top.ensures c.then_tidy-right.ensures c.then_tidy.ensures

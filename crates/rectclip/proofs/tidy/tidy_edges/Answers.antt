@@ -1,0 +1,13 @@
+-- `rectclip::tidy::tidy_edges` meets its contract, one law for each way.
+use native.Mathlib.Omega.{arith}
+use Rattle.rectclip.proofs.Tidying.{tidy_none, tidy_some}
+use borrow.Author.Rules.{rules}
+use Rattle.rectclip.proofs.tidy.tidy_edges.Goals as goal
+
+pub returns-then-lens-ccw-eq0 : goal.returns-then-lens-ccw-eq0
+returns-then-lens-ccw-eq0 c =
+    tidy_none c.requires c.if-lens-ccw-eq0.true
+
+pub returns : goal.returns
+returns c =
+    tidy_some c.requires c.if-lens-ccw-eq0.false c.take_turns.result c.take_turns.ensures
