@@ -9,7 +9,7 @@ add-requires c =
 
 pub returns-in-Walked : goal.returns-in-Walked
 returns-in-Walked c =
-    enter_walked c.args.rect c.args.store.now c.args.work.now c.args.c c.args.crossing_loc c.args.ip c.enter_corners.ensures c.in-Walked.is c.enter_corners.kept.1.0 c.add.ensures c.first_of-first.ensures c.advance_of.ensures
+    enter_walked c.args.rect c.args.store.now c.args.work.now c.args.c c.args.crossing_loc c.args.ip c.enter_corners.ensures c.in-Walked.is c.enter_corners.auto.store c.add.ensures c.first_of-first.ensures c.advance_of.ensures
 
 pub returns-in-Refused : goal.returns-in-Refused
 returns-in-Refused c =

@@ -9,7 +9,7 @@ pass_from-requires c =
 
 pub returns-in-To : goal.returns-in-To
 returns-in-To c =
-    pass_went c.args.rect c.args.path.now c.args.store.now c.args.work.now c.args.s c.get_next_location.ensures c.in-To.is c.get_next_location.kept.1.1.0 c.pass_from.ensures
+    pass_went c.args.rect c.args.path.now c.args.store.now c.args.work.now c.args.s c.get_next_location.ensures c.in-To.is c.get_next_location.auto.store c.pass_from.ensures
 
 pub returns-in-Stopped : goal.returns-in-Stopped
 returns-in-Stopped c =

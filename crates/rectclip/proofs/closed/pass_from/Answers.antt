@@ -18,12 +18,12 @@ remain_outside-requires c =
 
 pub cross_boundary-requires : goal.cross_boundary-requires
 cross_boundary-requires c =
-    record { passing = record { fits = c.requires.fits; closes = pass_limited c.args.path.now _ c.requires.sheet c.point_at-pt.ensures c.point_before-prev_pt.ensures; soon = omega arith }; close = c.get_intersection.ensures.1.reached c.requires.sheet.extent _ _ c.in-Found.is }
+    record { passing = record { fits = c.requires.fits; closes = pass_limited c.args.path.now _ c.requires.sheet c.point_at-pt.ensures c.point_before-prev_pt.ensures; soon = omega arith }; close = c.get_intersection.ensures.near.reached c.requires.sheet.extent _ _ c.in-Found.is }
 
 pub returns-in-Missed : goal.returns-in-Missed
 returns-in-Missed c =
-    from_outside c.args.rect c.args.path.now c.args.store.now c.args.work.now c.args.s c.args.nx c.if-path-i.false c.point_at-pt.ensures c.point_before-prev_pt.ensures c.get_intersection.ensures.0 c.in-Missed.is c.remain_outside.ensures
+    from_outside c.args.rect c.args.path.now c.args.store.now c.args.work.now c.args.s c.args.nx c.if-path-i.false c.point_at-pt.ensures c.point_before-prev_pt.ensures c.get_intersection.ensures.is c.in-Missed.is c.remain_outside.ensures
 
 pub returns-in-Found : goal.returns-in-Found
 returns-in-Found c =
-    from_crossed c.args.rect c.args.path.now c.args.store.now c.args.work.now c.args.s c.args.nx c.if-path-i.false c.point_at-pt.ensures c.point_before-prev_pt.ensures c.get_intersection.ensures.0 c.in-Found.is c.cross_boundary.ensures
+    from_crossed c.args.rect c.args.path.now c.args.store.now c.args.work.now c.args.s c.args.nx c.if-path-i.false c.point_at-pt.ensures c.point_before-prev_pt.ensures c.get_intersection.ensures.is c.in-Found.is c.cross_boundary.ensures

@@ -9,8 +9,8 @@ returns-in_default c =
 
 pub returns-in_default-q : goal.returns-in_default-q
 returns-in_default-q c =
-    in_stopped c.args.rect c.args.store.now c.args.work.now c.args.c c.args.ip2 c.args.loc c.pass_corner-r.ensures c.in-Walked.is c.pass_corner-r.kept.1.0 c.pass_start-q.ensures c.in_default-q.is
+    in_stopped c.args.rect c.args.store.now c.args.work.now c.args.c c.args.ip2 c.args.loc c.pass_corner-r.ensures c.in-Walked.is c.pass_corner-r.auto.store c.pass_start-q.ensures c.in_default-q.is
 
 pub returns : goal.returns
 returns c =
-    in_added c.args.rect c.args.store.now c.args.work.now c.args.c c.args.ip2 c.args.loc c.pass_corner-r.ensures c.in-Walked.is c.pass_corner-r.kept.1.0 c.pass_start-q.ensures c.in-Walked-q.is c.add.ensures
+    in_added c.args.rect c.args.store.now c.args.work.now c.args.c c.args.ip2 c.args.loc c.pass_corner-r.ensures c.in-Walked.is c.pass_corner-r.auto.store c.pass_start-q.ensures c.in-Walked-q.is c.add.ensures

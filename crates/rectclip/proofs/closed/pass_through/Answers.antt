@@ -6,4 +6,4 @@ use Rattle.rectclip.proofs.closed.pass_through.Goals as goal
 
 pub returns : goal.returns
 returns c =
-    passed_through c.args.rect c.args.store.now c.args.work.now c.args.c c.args.ip c.args.crossing_loc c.second_search-second.ensures.0 c.pass_to.ensures
+    passed_through c.args.rect c.args.store.now c.args.work.now c.args.c c.args.ip c.args.crossing_loc c.second_search-second.ensures.is c.pass_to.ensures

@@ -21,7 +21,7 @@ returns-in_default c =
 
 pub loop-left-preserved : goal.loop-left-preserved
 loop-left-preserved c =
-    passes_again c.loop-left.invariant c.loop-left-test.true c.if-n-i.false c.one_pass-r.ensures _ c.in-On.is c.one_pass-r.kept.1.1.0 c.one_pass-r.kept.1.1.1.0
+    passes_again c.loop-left.invariant c.loop-left-test.true c.if-n-i.false c.one_pass-r.ensures _ c.in-On.is c.one_pass-r.auto.store c.one_pass-r.auto.work
 
 pub returns : goal.returns
 returns c = passes_done c.loop-left.invariant (omega (arith, c.loop-left-test.false))

@@ -11,5 +11,5 @@ use Rattle.rectclip.proofs.idle.idle_turns.Goals as goal
 
 pub loop-i-preserved : goal.loop-i-preserved
 loop-i-preserved c =
-    let may = may_idle c.requires c.loop-i-test.true c.entry_of.result c.entry_of.ensures c.is_live.result c.is_live.ensures (not-false c.is_live.result c.if-not-is_live.false) in
+    let may = may_idle c.requires c.loop-i-test.true c.entry_of.result c.entry_of.ensures c.is_live.result c.is_live.ensures c.if-not-is_live.false in
     idled_end may (idled_on c.loop-i.invariant c.idle_along-at.ensures) (omega (arith, c.if-left-eq0.false)) c.entry_of.result c.entry_of.ensures c.if-j-other.false

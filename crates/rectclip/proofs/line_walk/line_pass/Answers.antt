@@ -19,4 +19,4 @@ line_from-requires c =
 
 pub returns : goal.returns
 returns c =
-    move_then c.get_next_location-m.ensures c.in-To.is (line_from (no_room (length c.args.store.now / 2)) c.args.rect (points_of c.args.path.now) c.args.s.loc) (rw c.get_next_location-m.kept.1.1.0 at c.line_from.ensures)
+    move_then c.get_next_location-m.ensures c.in-To.is (line_from (no_room (length c.args.store.now / 2)) c.args.rect (points_of c.args.path.now) c.args.s.loc) (rw c.get_next_location-m.auto.store at c.line_from.ensures)

@@ -14,7 +14,7 @@ returns-in_default c =
 
 pub loop-left-preserved : goal.loop-left-preserved
 loop-left-preserved c =
-    passes_again c.loop-left.invariant c.loop-left-test.true c.if-n-i.false c.line_pass-m.ensures _ c.in-To.is c.line_pass-m.kept.1.1.0 c.line_pass-m.kept.1.1.1.0
+    passes_again c.loop-left.invariant c.loop-left-test.true c.if-n-i.false c.line_pass-m.ensures _ c.in-To.is c.line_pass-m.auto.store c.line_pass-m.auto.work
 
 pub returns : goal.returns
 returns c = passes_done c.loop-left.invariant (omega (arith, c.loop-left-test.false))

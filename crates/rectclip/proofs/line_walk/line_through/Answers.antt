@@ -6,8 +6,8 @@ use Rattle.rectclip.proofs.line_walk.line_through.Goals as goal
 
 pub returns-in_default : goal.returns-in_default
 returns-in_default c =
-    through_stop c.args.rect c.args.store.now c.args.work.now c.args.nx c.args.prev c.args.prev_pt c.args.pt c.args.ip c.second_search-second.ensures.0 c.add-r.ensures _ c.in_default.is c.move_of.ensures
+    through_stop c.args.rect c.args.store.now c.args.work.now c.args.nx c.args.prev c.args.prev_pt c.args.pt c.args.ip c.second_search-second.ensures.is c.add-r.ensures _ c.in_default.is c.move_of.ensures
 
 pub returns : goal.returns
 returns c =
-    through_go c.args.rect c.args.store.now c.args.work.now c.args.nx c.args.prev c.args.prev_pt c.args.pt c.args.ip c.second_search-second.ensures.0 c.add-r.ensures _ c.in-Walked.is c.add-r.kept.0 c.add.ensures c.move_of-2.ensures
+    through_go c.args.rect c.args.store.now c.args.work.now c.args.nx c.args.prev c.args.prev_pt c.args.pt c.args.ip c.second_search-second.ensures.is c.add-r.ensures _ c.in-Walked.is c.add-r.auto.store c.add.ensures c.move_of-2.ensures

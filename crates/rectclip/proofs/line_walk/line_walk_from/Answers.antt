@@ -10,4 +10,4 @@ returns-in_default c =
 
 pub returns : goal.returns
 returns c =
-    walk_passed c.args.rect c.args.path.now c.args.store.now c.args.loc c.first_point-r.ensures _ c.in-Walked.is c.first_point-r.kept.1.0 c.line_passes.ensures c.step_of.ensures
+    walk_passed c.args.rect c.args.path.now c.args.store.now c.args.loc c.first_point-r.ensures _ c.in-Walked.is c.first_point-r.auto.store c.line_passes.ensures c.step_of.ensures

@@ -18,8 +18,8 @@ returns-then-not-intersects c =
 
 pub returns-in-Walked : goal.returns-in-Walked
 returns-in-Walked c =
-    leaves_drawing c.args.coordinates.now c.args.lengths.now c.args.store.now c.args.work.now _ (line_walked c.args.rect c.args.path.now (length c.args.store.now / 2) (sym c.is_empty.ensures ∙ c.if-is_empty.false) (sym (c.intersects.ensures ∙ ap (intersects c.args.rect) c.requires.bound) ∙ c.if-not-intersects.false) _ (walked_is c.Line_walk.ensures c.in-Walked.is)) c.deliver_lines.ensures
+    leaves_drawing c.args.coordinates.now c.args.lengths.now c.args.store.now c.args.work.now _ (line_walked c.args.rect c.args.path.now (length c.args.store.now / 2) (sym c.is_empty.ensures ∙ c.if-is_empty.false) (sym (c.intersects.ensures ∙ ap (intersects c.args.rect) c.requires.bound) ∙ c.if-not-intersects.false) _ (walked_is c.line_walk.ensures c.in-Walked.is)) c.deliver_lines.ensures
 
 pub returns-in-Refused : goal.returns-in-Refused
 returns-in-Refused c =
-    leaves_refusal c.args.coordinates.now c.args.lengths.now c.args.store.now c.args.work.now _ (line_refused c.args.rect c.args.path.now (length c.args.store.now / 2) (sym c.is_empty.ensures ∙ c.if-is_empty.false) (sym (c.intersects.ensures ∙ ap (intersects c.args.rect) c.requires.bound) ∙ c.if-not-intersects.false) _ (refused_is c.Line_walk.ensures c.in-Refused.is))
+    leaves_refusal c.args.coordinates.now c.args.lengths.now c.args.store.now c.args.work.now _ (line_refused c.args.rect c.args.path.now (length c.args.store.now / 2) (sym c.is_empty.ensures ∙ c.if-is_empty.false) (sym (c.intersects.ensures ∙ ap (intersects c.args.rect) c.requires.bound) ∙ c.if-not-intersects.false) _ (refused_is c.line_walk.ensures c.in-Refused.is))

@@ -22,7 +22,7 @@ returns-in-Refused c =
 
 pub loop-i-preserved : goal.loop-i-preserved
 loop-i-preserved c =
-    inside_again c.loop-i.invariant c.loop-i-test.true c.point_at-p.ensures c.exit_side-side.ensures c.is_inside.ensures (c.if-not-is_inside.false) c.add.ensures _ c.in-Walked.is c.add.kept.0 c.add.kept.1.0
+    inside_again c.loop-i.invariant c.loop-i-test.true c.point_at-p.ensures c.exit_side-side.ensures c.is_inside.ensures (c.if-not-is_inside.false) c.add.ensures _ c.in-Walked.is c.add.auto.store c.add.auto.work
 
 pub returns : goal.returns
 returns c = inside_ends c.loop-i.invariant c.loop-i-test.false

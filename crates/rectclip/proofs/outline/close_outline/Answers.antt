@@ -14,7 +14,7 @@ returns-in_default c =
 
 pub loop-i-preserved : goal.loop-i-preserved
 loop-i-preserved c =
-    retrace_again c.loop-i.invariant c.loop-i-test.true c.start_loc-loc2.ensures c.corner_toward-r.ensures _ c.in-Walked.is c.corner_toward-r.kept.1.0 c.corner_toward-r.kept.1.1.0
+    retrace_again c.loop-i.invariant c.loop-i-test.true c.start_loc-loc2.ensures c.corner_toward-r.ensures _ c.in-Walked.is c.corner_toward-r.auto.store c.corner_toward-r.auto.work
 
 pub returns : goal.returns
 returns c =

@@ -13,7 +13,7 @@ after_while-requires c =
 
 pub returns-in-On : goal.returns-in-On
 returns-in-On c =
-    from_on c.args.rect c.args.path.now c.args.store.now c.args.work.now c.args.loc c.new.ensures c.passes.ensures c.in-On.is c.passes.kept.1.1.0 c.after_while.ensures
+    from_on c.args.rect c.args.path.now c.args.store.now c.args.work.now c.args.loc c.new.ensures c.passes.ensures c.in-On.is c.passes.auto.store c.after_while.ensures
 
 pub returns-in-Refused : goal.returns-in-Refused
 returns-in-Refused c =

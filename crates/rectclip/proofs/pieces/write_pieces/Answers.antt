@@ -19,7 +19,7 @@ bounds-lengths-paths c =
 
 pub loop-j-preserved-then-from-to : goal.loop-j-preserved-then-from-to
 loop-j-preserved-then-from-to c =
-    writing_more c.requires c.loop-j.invariant c.loop-j-test.true c.start_of-from.ensures c.start_of-to.ensures c.if-from-to.true c.copy_points.ensures c.copy_points.kept.1.1.1.0
+    writing_more c.requires c.loop-j.invariant c.loop-j-test.true c.start_of-from.ensures c.start_of-to.ensures c.if-from-to.true c.copy_points.ensures c.copy_points.auto.list
 
 pub loop-j-preserved : goal.loop-j-preserved
 loop-j-preserved c = ?

@@ -10,21 +10,14 @@ use Rattle.rectclip.proofs.ScanSteps.{index_before, level_is, pass_is, level_wit
 use borrow.Author.Rules.{rules}
 use Rattle.rectclip.proofs.polygon.at_vertex.Goals as goal
 
-known : (s : goal.Start) (v : goal.After-point_at-curr) → SFits w64 v.point_at.result.y × SFits w64 s.args.pt.y
-known s v = search rules
-
 pub returns-then-curr-pt : goal.returns-then-curr-pt
 returns-then-curr-pt c =
-    let (f, g) = known c c in
-    let path = c.args.polygon.now in (
-      level_is c.args.pt path c.args.first_idx c.args.s c.args.i c.point_at-curr.ensures (c.point_at-prev.ensures ∙ ap (λ (k : ℕ). pt_at (points_of path) k) (c.before_idx.ensures.0 ∙ index_before c.args.pt path c.args.i)) (eq_plain _ _ f g c.if-curr-pt.true) c.on_line.ensures c.level.ensures,
-      level_within c.args.pt path c.args.first_idx c.args.s c.args.i _ c.requires.here c.requires.bit c.on_line.result c.level.ensures,
-    )
+    let known : SFits w64 c.point_at-curr.result.y × SFits w64 c.args.pt.y = search rules in
+    let (f, g) = known in
+    let path = c.args.polygon.now in record { is = level_is c.args.pt path c.args.first_idx c.args.s c.args.i c.point_at-curr.ensures (c.point_at-prev.ensures ∙ ap (λ (k : ℕ). pt_at (points_of path) k) (c.before_idx.ensures.is ∙ index_before c.args.pt path c.args.i)) (eq_plain _ _ f g c.if-curr-pt.true) c.on_line.ensures c.level.ensures; within = level_within c.args.pt path c.args.first_idx c.args.s c.args.i _ c.requires.here c.requires.bit c.on_line.result c.level.ensures }
 
 pub returns : goal.returns
 returns c =
-    let (f, g) = known c c in
-    let path = c.args.polygon.now in (
-      pass_is c.args.pt path c.args.first_idx c.args.s c.args.i c.point_at-curr.ensures (c.point_at-prev.ensures ∙ ap (λ (k : ℕ). pt_at (points_of path) k) (c.before_idx.ensures.0 ∙ index_before c.args.pt path c.args.i)) (ne_plain _ _ f g c.if-curr-pt.false) c.edge_passes.ensures c.passed.ensures,
-      pass_within c.args.pt path c.args.first_idx c.args.s c.args.i _ c.requires.here c.requires.bit c.edge_passes.result c.passed.ensures,
-    )
+    let known : SFits w64 c.point_at-curr.result.y × SFits w64 c.args.pt.y = search rules in
+    let (f, g) = known in
+    let path = c.args.polygon.now in record { is = pass_is c.args.pt path c.args.first_idx c.args.s c.args.i c.point_at-curr.ensures (c.point_at-prev.ensures ∙ ap (λ (k : ℕ). pt_at (points_of path) k) (c.before_idx.ensures.is ∙ index_before c.args.pt path c.args.i)) (ne_plain _ _ f g c.if-curr-pt.false) c.edge_passes.ensures c.passed.ensures; within = pass_within c.args.pt path c.args.first_idx c.args.s c.args.i _ c.requires.here c.requires.bit c.edge_passes.result c.passed.ensures }

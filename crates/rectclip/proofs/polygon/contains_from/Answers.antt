@@ -25,9 +25,8 @@ small z h = sfits_abs (omega arith)
 
 pub returns-then-io : goal.returns-then-io
 returns-then-io c =
-    let s = c in
-    let P = s.args.path1.now in
-    let Q = s.args.path2.now in
+    let P = c.args.path1.now in
+    let Q = c.args.path2.now in
     let i = c.loop-i.i in
     let h : i < length (points_of Q) = omega (arith, points_length Q) in
     let f = small c.loop-i.tally.io_count c.loop-i.invariant.1.0 in
@@ -36,9 +35,8 @@ returns-then-io c =
 
 pub loop-i-preserved : goal.loop-i-preserved
 loop-i-preserved c =
-    let s = c in
-    let P = s.args.path1.now in
-    let Q = s.args.path2.now in
+    let P = c.args.path1.now in
+    let Q = c.args.path2.now in
     let i = c.loop-i.i in
     let h : i < length (points_of Q) = omega (arith, points_length Q) in
     let f = small c.loop-i.tally.io_count c.loop-i.invariant.1.0 in
@@ -48,5 +46,4 @@ loop-i-preserved c =
 
 pub returns : goal.returns
 returns c =
-    let s = c in
-    to_z-of_z (small c.loop-i.tally.io_count c.loop-i.invariant.1.0) ∙ (sym (contains_none (points_of s.args.path1.now) (points_of s.args.path2.now) c.loop-i.i c.loop-i.tally.io_count (omega (arith, points_length s.args.path2.now))) ∙ c.loop-i.invariant.0)
+    to_z-of_z (small c.loop-i.tally.io_count c.loop-i.invariant.1.0) ∙ (sym (contains_none (points_of c.args.path1.now) (points_of c.args.path2.now) c.loop-i.i c.loop-i.tally.io_count (omega (arith, points_length c.args.path2.now))) ∙ c.loop-i.invariant.0)

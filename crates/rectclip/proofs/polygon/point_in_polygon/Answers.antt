@@ -19,9 +19,6 @@ use Rattle.rectclip.proofs.Polygons.{too_few, all_level, scanned}
 use borrow.Author.Rules.{rules}
 use Rattle.rectclip.proofs.polygon.point_in_polygon.Goals as goal
 
-known : (s : goal.Start) (p : goal.After-point_at-first) → SFits w64 p.point_at.result.y × SFits w64 s.args.pt.y
-known s p = search rules
-
 -- the scan starts at the vertex that was read
 started : (pt : Point64) (c : List ℤ) (f : ℕ) {p : Point64} {r : PointInPolygonResult} → p ≡ pt_at (points_of c) f
     → r ≡ scan_loop pt (points_of c) f (2 * (length c / 2) + 2) (lt_z p.y pt.y) (record { curr_idx = (f + 1) % (length c / 2); is_above = lt_z p.y pt.y; wrap_to_start = false; val = 0 })
@@ -32,9 +29,10 @@ pub returns-then-n-lt3 : goal.returns-then-n-lt3
 returns-then-n-lt3 c = too_few c.args.pt c.args.polygon.now (omega arith)
 
 pub returns-then-first_idx-n : goal.returns-then-first_idx-n
-returns-then-first_idx-n c = all_level c.args.pt c.args.polygon.now (omega arith) c.first_off-first_idx.ensures.0 c.if-first_idx-n.true
+returns-then-first_idx-n c = all_level c.args.pt c.args.polygon.now (omega arith) c.first_off-first_idx.ensures.is c.if-first_idx-n.true
 
 pub returns : goal.returns
 returns c =
-    let (k0, k1) = known c c in
-    scanned c.args.pt c.args.polygon.now (omega arith) c.first_off-first_idx.ensures.0 c.if-first_idx-n.false (started c.args.pt c.args.polygon.now c.first_off-first_idx.result c.point_at-first.ensures (simp to_z-of_z at c.scan_loop.ensures))
+    let known : SFits w64 c.point_at-first.result.y × SFits w64 c.args.pt.y = search rules in
+    let (k0, k1) = known in
+    scanned c.args.pt c.args.polygon.now (omega arith) c.first_off-first_idx.ensures.is c.if-first_idx-n.false (started c.args.pt c.args.polygon.now c.first_off-first_idx.result c.point_at-first.ensures (simp to_z-of_z at c.scan_loop.ensures))

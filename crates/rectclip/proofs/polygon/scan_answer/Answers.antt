@@ -25,12 +25,12 @@ returns-then-is_above-starting_above c = ends_alike c.args.pt c.args.polygon.now
 
 pub returns-then-d-eq0 : goal.returns-then-d-eq0
 returns-then-d-eq0 c =
-    ends_on c.args.pt c.args.polygon.now c.args.starting_above c.args.s c.if-is_above-starting_above.false c.start_from-i.ensures c.point_at-curr.ensures c.point_at-prev.ensures c.before_idx.ensures.0 c.cross_product_sign-d.ensures (zero_yes {r = c.cross_product_sign-d.result} (record { sfits = c.cross_product_sign-d.type_inv }) refl c.if-d-eq0.true)
+    ends_on c.args.pt c.args.polygon.now c.args.starting_above c.args.s c.if-is_above-starting_above.false c.start_from-i.ensures c.point_at-curr.ensures c.point_at-prev.ensures c.before_idx.ensures.is c.cross_product_sign-d.ensures (zero_yes {r = c.cross_product_sign-d.result} (record { sfits = c.cross_product_sign-d.type_inv }) refl c.if-d-eq0.true)
 
 pub returns-then-d-is_above : goal.returns-then-d-is_above
 returns-then-d-is_above c =
-    ends_across c.args.pt c.args.polygon.now c.args.starting_above c.args.s c.if-is_above-starting_above.false c.start_from-i.ensures c.point_at-curr.ensures c.point_at-prev.ensures c.before_idx.ensures.0 c.cross_product_sign-d.ensures (zero_no {r = c.cross_product_sign-d.result} (record { sfits = c.cross_product_sign-d.type_inv }) refl c.if-d-eq0.false) (below c.args.s.is_above {r = c.cross_product_sign-d.result} (record { sfits = c.cross_product_sign-d.type_inv }) refl c.if-d-is_above.true) c.answer_of-then-d-is_above.ensures
+    ends_across c.args.pt c.args.polygon.now c.args.starting_above c.args.s c.if-is_above-starting_above.false c.start_from-i.ensures c.point_at-curr.ensures c.point_at-prev.ensures c.before_idx.ensures.is c.cross_product_sign-d.ensures (zero_no {r = c.cross_product_sign-d.result} (record { sfits = c.cross_product_sign-d.type_inv }) refl c.if-d-eq0.false) (below c.args.s.is_above {r = c.cross_product_sign-d.result} (record { sfits = c.cross_product_sign-d.type_inv }) refl c.if-d-is_above.true) c.answer_of-then-d-is_above.ensures
 
 pub returns : goal.returns
 returns c =
-    ends_aside c.args.pt c.args.polygon.now c.args.starting_above c.args.s c.if-is_above-starting_above.false c.start_from-i.ensures c.point_at-curr.ensures c.point_at-prev.ensures c.before_idx.ensures.0 c.cross_product_sign-d.ensures (zero_no {r = c.cross_product_sign-d.result} (record { sfits = c.cross_product_sign-d.type_inv }) refl c.if-d-eq0.false) (below c.args.s.is_above {r = c.cross_product_sign-d.result} (record { sfits = c.cross_product_sign-d.type_inv }) refl c.if-d-is_above.false) c.answer_of-2.ensures
+    ends_aside c.args.pt c.args.polygon.now c.args.starting_above c.args.s c.if-is_above-starting_above.false c.start_from-i.ensures c.point_at-curr.ensures c.point_at-prev.ensures c.before_idx.ensures.is c.cross_product_sign-d.ensures (zero_no {r = c.cross_product_sign-d.result} (record { sfits = c.cross_product_sign-d.type_inv }) refl c.if-d-eq0.false) (below c.args.s.is_above {r = c.cross_product_sign-d.result} (record { sfits = c.cross_product_sign-d.type_inv }) refl c.if-d-is_above.false) c.answer_of-2.ensures

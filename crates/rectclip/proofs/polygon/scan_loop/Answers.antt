@@ -12,23 +12,19 @@ use Rattle.rectclip.proofs.polygon.scan_loop.Goals as goal
 
 pub returns-in-OnEdge : goal.returns-in-OnEdge
 returns-in-OnEdge c =
-    let s = c in
-    loop_on s.args.pt s.args.polygon.now s.args.first_idx s.args.starting_above c.loop-left.s c.loop-left.left c.loop-left-test.true (sym (ap step_of c.in-OnEdge.is) ∙ c.scan_pass-step.ensures.0) ∙ c.loop-left.invariant.0
+    loop_on c.args.pt c.args.polygon.now c.args.first_idx c.args.starting_above c.loop-left.s c.loop-left.left c.loop-left-test.true (sym (ap step_of c.in-OnEdge.is) ∙ c.scan_pass-step.ensures.is) ∙ c.loop-left.invariant.0
 
 pub returns-in-Stop : goal.returns-in-Stop
 returns-in-Stop c =
-    let s = c in
-    loop_stops s.args.pt s.args.polygon.now s.args.first_idx s.args.starting_above c.loop-left.s c.loop-left.left c.loop-left-test.true (sym (ap step_of c.in-Stop.is) ∙ c.scan_pass-step.ensures.0) c.scan_answer.ensures ∙ c.loop-left.invariant.0
+    loop_stops c.args.pt c.args.polygon.now c.args.first_idx c.args.starting_above c.loop-left.s c.loop-left.left c.loop-left-test.true (sym (ap step_of c.in-Stop.is) ∙ c.scan_pass-step.ensures.is) c.scan_answer.ensures ∙ c.loop-left.invariant.0
 
 pub loop-left-preserved : goal.loop-left-preserved
 loop-left-preserved c =
-    let s = c in
     (
-      loop_goes_on s.args.pt s.args.polygon.now s.args.first_idx s.args.starting_above c.loop-left.s c.loop-left.left c.in-Again.t c.loop-left-test.true (sym (ap step_of c.in-Again.is) ∙ c.scan_pass-step.ensures.0) ∙ c.loop-left.invariant.0,
-      subst (Scanning (length s.args.polygon.now / 2)) c.in-Again.is c.scan_pass-step.ensures.1,
+      loop_goes_on c.args.pt c.args.polygon.now c.args.first_idx c.args.starting_above c.loop-left.s c.loop-left.left c.in-Again.t c.loop-left-test.true (sym (ap step_of c.in-Again.is) ∙ c.scan_pass-step.ensures.is) ∙ c.loop-left.invariant.0,
+      subst (Scanning (length c.args.polygon.now / 2)) c.in-Again.is c.scan_pass-step.ensures.within,
     )
 
 pub returns : goal.returns
 returns c =
-    let s = c in
-    loop_ends s.args.pt s.args.polygon.now s.args.first_idx s.args.starting_above c.loop-left.s c.loop-left.left (omega arith) c.scan_answer-2.ensures ∙ c.loop-left.invariant.0
+    loop_ends c.args.pt c.args.polygon.now c.args.first_idx c.args.starting_above c.loop-left.s c.loop-left.left (omega arith) c.scan_answer-2.ensures ∙ c.loop-left.invariant.0

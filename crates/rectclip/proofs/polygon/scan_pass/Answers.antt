@@ -12,12 +12,12 @@ use borrow.Author.Rules.{rules}
 use Rattle.rectclip.proofs.polygon.scan_pass.Goals as goal
 
 pub returns-then-at_end-s : goal.returns-then-at_end-s
-returns-then-at_end-s c = (pass_stops c.args.pt c.args.polygon.now c.args.first_idx c.args.s c.if-at_end-s.true, record { index = c.requires.index; bit = c.requires.bit })
+returns-then-at_end-s c = record { is = pass_stops c.args.pt c.args.polygon.now c.args.first_idx c.args.s c.if-at_end-s.true; within = record { index = c.requires.index; bit = c.requires.bit } }
 
 pub returns-then-i-n : goal.returns-then-i-n
 returns-then-i-n c =
-    (pass_skips c.args.pt c.args.polygon.now c.args.first_idx c.args.s c.if-at_end-s.false c.start_from-from.ensures c.skipped-i.ensures.0 c.if-i-n.true, record { index = c.skipped-i.ensures.1; bit = c.requires.bit })
+    record { is = pass_skips c.args.pt c.args.polygon.now c.args.first_idx c.args.s c.if-at_end-s.false c.start_from-from.ensures c.skipped-i.ensures.is c.if-i-n.true; within = record { index = c.skipped-i.ensures.within; bit = c.requires.bit } }
 
 pub returns : goal.returns
 returns c =
-    (pass_vertex c.args.pt c.args.polygon.now c.args.first_idx c.args.s c.if-at_end-s.false c.start_from-from.ensures c.skipped-i.ensures.0 c.if-i-n.false c.at_vertex.ensures.0, c.at_vertex.ensures.1)
+    record { is = pass_vertex c.args.pt c.args.polygon.now c.args.first_idx c.args.s c.if-at_end-s.false c.start_from-from.ensures c.skipped-i.ensures.is c.if-i-n.false c.at_vertex.ensures.is; within = c.at_vertex.ensures.within }

@@ -18,45 +18,40 @@ use Rattle.plane.specs.declared.point.Point64.{Point64}
 use Rattle.rectclip.proofs.Scans.{skip_start, skip_turn, skip_wraps, skip_stops, skip_end}
 use Rattle.rectclip.proofs.polygon.skipped.Goals as goal
 
-known : (s : goal.Start) (v : goal.After-point_at-p) → SFits w64 v.point_at.result.y × SFits w64 s.args.pt.y
-known s v = search rules
-
 same_height : (above : Bool) (y : ℤ) {p q : Point64} {b : Bool} → p ≡ q → b ≡ (if above then lt_z p.y y else lt_z y p.y) → b ≡ (if above then lt_z q.y y else lt_z y q.y)
 same_height above y e f = f ∙ ap (λ (p : Point64). if above then lt_z p.y y else lt_z y p.y) e
 
 pub returns-then-wrap-first_idx : goal.returns-then-wrap-first_idx
 returns-then-wrap-first_idx c =
-    let s = c in
     let a = s.args in
     let path = a.polygon.now in
     let i = c.loop-i.i in
     let h : i < length path / 2 = omega arith in
-    (sym (skip_wraps a.pt path a.is_above a.wrap a.first_idx a.from i c.loop-i.invariant.1.0 h c.if-wrap-first_idx.true) ∙ c.loop-i.invariant.0, omega arith)
+    record { is = sym (skip_wraps a.pt path a.is_above a.wrap a.first_idx a.from i c.loop-i.invariant.1.0 h c.if-wrap-first_idx.true) ∙ c.loop-i.invariant.0; within = omega arith }
 
 pub returns-then-not-same_side : goal.returns-then-not-same_side
 returns-then-not-same_side c =
-    let s = c in
     let a = s.args in
     let path = a.polygon.now in
     let i = c.loop-i.i in
-    let (f, g) = known s c in
+    let known : SFits w64 c.point_at-p.result.y × SFits w64 c.args.pt.y = search rules in
+    let (f, g) = known in
     let e = same_height a.is_above a.pt.y c.point_at-p.ensures (simp to_z-of_z at c.same_side.ensures) in
     let h : i < length path / 2 = omega arith in
-    (sym (skip_stops a.pt path a.is_above a.wrap a.first_idx a.from i c.loop-i.invariant.1.0 h c.if-wrap-first_idx.false (sym e ∙ c.if-not-same_side.true)) ∙ c.loop-i.invariant.0, omega arith)
+    record { is = sym (skip_stops a.pt path a.is_above a.wrap a.first_idx a.from i c.loop-i.invariant.1.0 h c.if-wrap-first_idx.false (sym e ∙ c.if-not-same_side.true)) ∙ c.loop-i.invariant.0; within = omega arith }
 
 pub loop-i-preserved : goal.loop-i-preserved
 loop-i-preserved c =
-    let s = c in
     let a = s.args in
     let path = a.polygon.now in
     let i = c.loop-i.i in
-    let (f, g) = known s c in
+    let known : SFits w64 c.point_at-p.result.y × SFits w64 c.args.pt.y = search rules in
+    let (f, g) = known in
     let e = same_height a.is_above a.pt.y c.point_at-p.ensures (simp to_z-of_z at c.same_side.ensures) in
     let h : i < length path / 2 = omega arith in
     (sym (skip_turn a.pt path a.is_above a.wrap a.first_idx a.from i c.loop-i.invariant.1.0 h c.if-wrap-first_idx.false (sym e ∙ c.if-not-same_side.false)) ∙ c.loop-i.invariant.0, (omega arith, omega arith))
 
 pub returns : goal.returns
 returns c =
-    let s = c in
     let a = s.args in
-    (sym (skip_end a.pt a.polygon.now a.is_above a.wrap a.first_idx (length a.polygon.now / 2 + a.from - c.loop-i.i) c.loop-i.i (omega arith)) ∙ c.loop-i.invariant.0, omega arith)
+    record { is = sym (skip_end a.pt a.polygon.now a.is_above a.wrap a.first_idx (length a.polygon.now / 2 + a.from - c.loop-i.i) c.loop-i.i (omega arith)) ∙ c.loop-i.invariant.0; within = omega arith }

@@ -8,7 +8,7 @@ walk_closed-requires c = may_walk c.requires
 
 pub clip_outline-requires : goal.clip_outline-requires
 clip_outline-requires c =
-    outline_clips c.requires c.walk_closed.ensures _ c.in-Done.is c.walk_closed.kept.1.1.1.0 c.walk_closed.kept.1.1.1.1.0
+    outline_clips c.requires c.walk_closed.ensures _ c.in-Done.is c.walk_closed.auto.store c.walk_closed.auto.work
 
 pub returns-in-Done : goal.returns-in-Done
 returns-in-Done c =

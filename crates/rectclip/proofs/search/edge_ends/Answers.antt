@@ -18,4 +18,4 @@ returns-then-res3-res4 c =
 
 pub returns : goal.returns
 returns c =
-    c.get_segment_intersect_pt.ensures.0 ∙ edge_between _ _ _ _ (zero_no (record { sfits = c.cross_product_sign-res3.type_inv }) c.cross_product_sign-res3.ensures c.if-res3-eq0.false) (zero_no (record { sfits = c.cross_product_sign-res4.type_inv }) c.cross_product_sign-res4.ensures c.if-res4-eq0.false) (alike (record { sfits = c.cross_product_sign-res3.type_inv }) (record { sfits = c.cross_product_sign-res4.type_inv }) c.cross_product_sign-res3.ensures c.cross_product_sign-res4.ensures c.if-res3-res4.false)
+    c.get_segment_intersect_pt.ensures.is ∙ edge_between _ _ _ _ (zero_no (record { sfits = c.cross_product_sign-res3.type_inv }) c.cross_product_sign-res3.ensures c.if-res3-eq0.false) (zero_no (record { sfits = c.cross_product_sign-res4.type_inv }) c.cross_product_sign-res4.ensures c.if-res4-eq0.false) (alike (record { sfits = c.cross_product_sign-res3.type_inv }) (record { sfits = c.cross_product_sign-res4.type_inv }) c.cross_product_sign-res3.ensures c.cross_product_sign-res4.ensures c.if-res3-res4.false)

@@ -6,4 +6,4 @@ use Rattle.rectclip.proofs.search.second_search.Goals as goal
 pub returns : goal.returns
 returns c =
     let e = c.found_or.ensures in
-    (rw e (second_is c.args.rect c.args.prev_pt c.args.pt c.args.prev c.args.ip c.get_intersection.ensures.0), rw e (second_reached c.args.ip c.args.prev c.requires.extent c.get_intersection.ensures.1 c.requires.at))
+    record { is = rw e (second_is c.args.rect c.args.prev_pt c.args.pt c.args.prev c.args.ip c.get_intersection.ensures.is); near = rw e (second_reached c.args.ip c.args.prev c.requires.extent c.get_intersection.ensures.near c.requires.at) }

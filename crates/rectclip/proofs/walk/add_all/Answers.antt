@@ -17,7 +17,7 @@ returns-in_default c =
 
 pub loop-i-preserved : goal.loop-i-preserved
 loop-i-preserved c =
-    all_again c.loop-i.invariant c.loop-i-test.true c.point_at.ensures c.add-r.ensures _ c.in-Walked.is c.add-r.kept.0 c.add-r.kept.1.0
+    all_again c.loop-i.invariant c.loop-i-test.true c.point_at.ensures c.add-r.ensures _ c.in-Walked.is c.add-r.auto.store c.add-r.auto.work
 
 pub returns : goal.returns
 returns c = all_done c.loop-i.invariant c.loop-i-test.false

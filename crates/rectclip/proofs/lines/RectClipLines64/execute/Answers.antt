@@ -22,6 +22,6 @@ pub returns-in-Admitted : goal.returns-in-Admitted
 returns-in-Admitted c =
     let before : Lent =
         lent c.args.coordinates.now c.args.lengths.now c.args.store.now c.args.work.now in
-    let store = c.draw_lines-answer.last.1.1.1.0 in
-    let work = c.draw_lines-answer.last.1.1.1.1.0 in
-    drawn_call false 0 c.args.self.rect c.args.path.now before c.admit.result c.admit.ensures _ c.in-Admitted.is c.draw_lines-answer.ensures store work c.draw_lines-answer.kept.1.1.1.0 c.draw_lines-answer.kept.1.1.1.1.0 c.clear_store.ensures c.clear_work.ensures
+    let store = c.draw_lines-answer.new.store in
+    let work = c.draw_lines-answer.new.work in
+    drawn_call false 0 c.args.self.rect c.args.path.now before c.admit.result c.admit.ensures _ c.in-Admitted.is c.draw_lines-answer.ensures store work c.draw_lines-answer.auto.store c.draw_lines-answer.auto.work c.clear_store.ensures c.clear_work.ensures

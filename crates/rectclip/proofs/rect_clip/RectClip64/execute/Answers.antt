@@ -22,6 +22,6 @@ pub returns-in-Admitted : goal.returns-in-Admitted
 returns-in-Admitted c =
     let before : Lent =
         lent c.args.coordinates.now c.args.lengths.now c.args.store.now c.args.work.now in
-    let store = c.draw_closed-answer.last.1.1.1.1.0 in
-    let work = c.draw_closed-answer.last.1.1.1.1.1.0 in
-    drawn_call true c.args.allowance c.args.self.rect c.args.path.now before c.admit.result c.admit.ensures _ c.in-Admitted.is (c.draw_closed-answer.ensures.is c.args.store.now c.args.work.now) store work c.draw_closed-answer.kept.1.1.1.1.0 c.draw_closed-answer.kept.1.1.1.1.1.0 c.clear_store.ensures c.clear_work.ensures
+    let store = c.draw_closed-answer.new.store in
+    let work = c.draw_closed-answer.new.work in
+    drawn_call true c.args.allowance c.args.self.rect c.args.path.now before c.admit.result c.admit.ensures _ c.in-Admitted.is (c.draw_closed-answer.ensures.is c.args.store.now c.args.work.now) store work c.draw_closed-answer.auto.store c.draw_closed-answer.auto.work c.clear_store.ensures c.clear_work.ensures
