@@ -6,4 +6,5 @@ use borrow.Author.Rules.{rules}
 use Rattle.rectclip.proofs.lists.get.Goals as goal
 
 pub returns : goal.returns
-returns c = ?
+unfolding at
+returns c = search rules

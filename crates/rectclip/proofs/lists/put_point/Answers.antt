@@ -4,4 +4,5 @@ use borrow.Author.Rules.{rules}
 use Rattle.rectclip.proofs.lists.put_point.Goals as goal
 
 pub returns : goal.returns
-returns c = ?
+unfolding put_point
+returns c = search rules

@@ -4,4 +4,5 @@ use borrow.Author.Rules.{rules}
 use Rattle.rectclip.proofs.lists.store.Goals as goal
 
 pub returns : goal.returns
-returns c = ?
+unfolding put
+returns c = search rules

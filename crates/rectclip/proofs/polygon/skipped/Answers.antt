@@ -23,7 +23,7 @@ same_height above y e f = f ∙ ap (λ (p : Point64). if above then lt_z p.y y e
 
 pub returns-then-wrap-first_idx : goal.returns-then-wrap-first_idx
 returns-then-wrap-first_idx c =
-    let a = s.args in
+    let a = c.args in
     let path = a.polygon.now in
     let i = c.loop-i.i in
     let h : i < length path / 2 = omega arith in
@@ -31,7 +31,7 @@ returns-then-wrap-first_idx c =
 
 pub returns-then-not-same_side : goal.returns-then-not-same_side
 returns-then-not-same_side c =
-    let a = s.args in
+    let a = c.args in
     let path = a.polygon.now in
     let i = c.loop-i.i in
     let known : SFits w64 c.point_at-p.result.y × SFits w64 c.args.pt.y = search rules in
@@ -42,7 +42,7 @@ returns-then-not-same_side c =
 
 pub loop-i-preserved : goal.loop-i-preserved
 loop-i-preserved c =
-    let a = s.args in
+    let a = c.args in
     let path = a.polygon.now in
     let i = c.loop-i.i in
     let known : SFits w64 c.point_at-p.result.y × SFits w64 c.args.pt.y = search rules in
@@ -53,5 +53,5 @@ loop-i-preserved c =
 
 pub returns : goal.returns
 returns c =
-    let a = s.args in
+    let a = c.args in
     record { is = sym (skip_end a.pt a.polygon.now a.is_above a.wrap a.first_idx (length a.polygon.now / 2 + a.from - c.loop-i.i) c.loop-i.i (omega arith)) ∙ c.loop-i.invariant.0; within = omega arith }

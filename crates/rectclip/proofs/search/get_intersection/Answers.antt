@@ -10,8 +10,8 @@ use Rattle.rectclip.proofs.Searches.{in_reach}
 use borrow.Author.Rules.{rules}
 use Rattle.rectclip.proofs.search.get_intersection.Goals as goal
 
-both : {r : Rect64} {p p2 : Point64} (loc : Location) {x : Search} → SearchLimits r p p2 → x ≡ get_intersection r p p2 loc → (x ≡ get_intersection r p p2 loc) × InReach r x
-both loc h e = (e, in_reach loc h e)
+both : {r : Rect64} {p p2 : Point64} (loc : Location) {x : Search} → SearchLimits r p p2 → x ≡ get_intersection r p p2 loc → record { is : x ≡ get_intersection r p p2 loc; near : InReach r x }
+both loc h e = record { is = e; near = in_reach loc h e }
 
 pub returns-in-Left : goal.returns-in-Left
 unfolding get_intersection

@@ -19,4 +19,6 @@ together : (a b c d : Point64) (r : Meeting) → AllLimited a b c d → r ≡ in
 together a b c d r h e = (e, subst (λ (k : Meeting). NearCrossing a b c d k) (sym e) (near_crossing a b c d h))
 
 pub returns : goal.returns
-returns c = together _ _ _ _ _ c.requires (steps _ _ _ _ _ _ _ c.measured-w.ensures c.found.ensures c.settled.ensures)
+returns c =
+    let t = together _ _ _ _ _ c.requires (steps _ _ _ _ _ _ _ c.measured-w.ensures c.found.ensures c.settled.ensures) in
+    record { is = t.0; near = t.1 }
