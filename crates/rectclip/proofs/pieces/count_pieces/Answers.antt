@@ -10,7 +10,7 @@ loop-j-preserved-then-from-to c =
     count_more c.requires c.loop-j.invariant c.loop-j-test.true c.start_of-from.ensures c.start_of-to.ensures c.if-from-to.true
 
 pub loop-j-preserved : goal.loop-j-preserved
-loop-j-preserved c = ?
+loop-j-preserved c = count_same c.requires c.loop-j.invariant c.loop-j-test.true c.start_of-from.ensures c.start_of-to.ensures c.if-from-to.false
 
 pub returns : goal.returns
 returns c = count_done (c.requires) c.loop-j.invariant c.loop-j-test.false

@@ -22,7 +22,7 @@ loop-j-preserved-then-from-to c =
     writing_more c.requires c.loop-j.invariant c.loop-j-test.true c.start_of-from.ensures c.start_of-to.ensures c.if-from-to.true c.copy_points.ensures c.copy_points.auto.list
 
 pub loop-j-preserved : goal.loop-j-preserved
-loop-j-preserved c = ?
+loop-j-preserved c = writing_same c.requires c.loop-j.invariant c.loop-j-test.true c.start_of-from.ensures c.start_of-to.ensures c.if-from-to.false
 
 pub returns : goal.returns
 returns c = writing_done (c.requires) c.loop-j.invariant c.loop-j-test.false
