@@ -4,7 +4,7 @@ ghost use Rattle.rectclip.specs.Promises.{Leaves, ReturnedBy};
 
 use entry::answer::Answer;
 use plane::rect::Rect64;
-use rectclip::lines::Rect_clip_lines64;
+use rectclip::lines::RectClipLines64;
 use rectclip::rect_clip::RectClip64;
 
 // One path, closed or open; the paths that a result returns have demand 3.
