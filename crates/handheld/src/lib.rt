@@ -1,4 +1,6 @@
 // Both clippers with the working lists of the handheld, for the exported entries and the programs: W = A = 256.
+#![tactic(auto)]
+
 ghost use Rattle.handheld.specs.Called.{called};
 ghost use Rattle.rectclip.specs.Promises.{Leaves, ReturnedBy};
 

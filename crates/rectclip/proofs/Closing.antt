@@ -27,7 +27,6 @@ use Rattle.rectclip.specs.declared.walk.Step.{Step}
 use Rattle.rectclip.specs.declared.walk.Step.TheVariants.{Walked}
 use Rattle.rectclip.specs.declared.walk.Step.TheVariants as step
 use Rattle.rectclip.specs.declared.closed.ClosedState.{ClosedState}
-use Rattle.rectclip.specs.declared.closed.Pass.{Pass}
 use Rattle.rectclip.specs.declared.closed.Advance.{Advance}
 use Rattle.rectclip.specs.declared.closed.Advance.TheVariants.{On, Refused}
 use Rattle.rectclip.specs.Walking.{walk_of, Fits, Stepped}

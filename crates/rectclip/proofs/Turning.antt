@@ -23,7 +23,7 @@ use Rattle.entry.specs.Answers.{number}
 use Rattle.rectclip.specs.declared.walk.WalkState.{WalkState}
 use Rattle.rectclip.specs.declared.walk.Step.{Step}
 use Rattle.rectclip.specs.declared.walk.Step.TheVariants.{Walked, Refused}
-use Rattle.rectclip.specs.Memory.{at, put, column}
+use Rattle.rectclip.specs.Memory.{put, column}
 use Rattle.rectclip.specs.Walking.{location, walk_of, turned, Fits, Stepped}
 use Rattle.rectclip.proofs.Memory.{room_put, at_put_field}
 use Rattle.rectclip.proofs.Columns.{column_length, column_pushed, column_other}

@@ -1,5 +1,7 @@
 // The rectangle clippers: RectClip64 for closed paths and RectClipLines64 for open ones, of rectclip.rs.
 // The public entries are total; what needs a bound is private.
+#![tactic(auto)]
+
 mod arena;
 mod clipping;
 mod closed;

@@ -1,4 +1,6 @@
 // Binary64 numbers cut to whole numbers. The theory of one rounding and of a chain of them is in proofs/.
+#![tactic(auto)]
+
 ghost use Rattle.std.specs.Prelude.{◌≡◌};
 ghost use Rattle.std.specs.Float.Ieee.{to_signed};
 

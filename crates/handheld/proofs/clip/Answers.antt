@@ -1,6 +1,5 @@
 -- `handheld::clip` meets its contract. Assumes nothing.
 use Rattle.handheld.proofs.Calls.{promised}
-use borrow.Author.Rules.{rules}
 use Rattle.handheld.proofs.clip.Goals as goal
 
 pub returns-then-closed-clause-leaves : goal.returns-then-closed-clause-leaves

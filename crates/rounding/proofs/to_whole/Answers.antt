@@ -1,5 +1,5 @@
 -- `rounding::to_whole` meets its contract. Assumes nothing.
-use Rattle.std.proofs.Common.{◌≡◌, Bool, true, false, not, T, sym, subst, rules}
+use Rattle.std.proofs.Common.{◌≡◌, Bool, true, false, not, T, sym, subst}
 use lib.Ieee.{of_bits, neg}
 use Rattle.rounding.proofs.Saturate.{past_highest, past_lowest, no_number}
 use Rattle.rounding.proofs.to_whole.Goals as goal

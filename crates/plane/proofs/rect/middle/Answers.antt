@@ -1,5 +1,5 @@
 -- `middle` meets its contract: a sum of numbers of different signs fits, and so does each sum of halves. Assumes nothing.
-use Rattle.std.proofs.Common.{◌≡◌, sym, subst, arith, ℤ, ◌+ℤ◌, w64, FitsSigned}
+use Rattle.std.proofs.Common.{◌≡◌, sym, subst, ℤ, ◌+ℤ◌, w64, FitsSigned}
 use mir.Facts.{to_z-of_z}
 use Rattle.integers.specs.Tests.{plain}
 use Rattle.integers.specs.Quot.{quot_fits}

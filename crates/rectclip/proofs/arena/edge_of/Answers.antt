@@ -1,7 +1,6 @@
 -- `rectclip::arena::edge_of` meets its contract: the cell read is the arena's entry.
 use mathlib.Core.Path.{sym, ◌∙◌}
 use Rattle.rectclip.proofs.Arenas.{edge_at}
-use borrow.Author.Rules.{rules}
 use Rattle.rectclip.proofs.arena.edge_of.Goals as goal
 
 pub returns : goal.returns

@@ -6,7 +6,6 @@ use lib.ListN.{get_or}
 use Rattle.plane.specs.Basics.{none}
 use Rattle.rectclip.proofs.Columns.{column_at}
 use Rattle.rectclip.proofs.Arenas.{list_at}
-use borrow.Author.Rules.{rules}
 use Rattle.rectclip.proofs.arena.entry_of.Goals as goal
 
 pub returns : goal.returns

@@ -1,8 +1,6 @@
 -- `rectclip::arena::push_entry` meets its contract: the cell behind the last entry is stored.
-use native.Mathlib.Omega.{arith}
 use Rattle.rectclip.specs.Arenas.{longer_list}
-use Rattle.rectclip.proofs.Stores.{pushed_entry, marked_fits}
-use borrow.Author.Rules.{rules}
+use Rattle.rectclip.proofs.Stores.{pushed_entry}
 use Rattle.rectclip.proofs.arena.push_entry.Goals as goal
 
 pub returns : goal.returns

@@ -1,8 +1,6 @@
 -- `rectclip::arena::push_result` meets its contract: the cell behind the last result is stored.
-use native.Mathlib.Omega.{arith}
 use Rattle.rectclip.specs.Arenas.{one_result_more}
-use Rattle.rectclip.proofs.Stores.{pushed_result, marked_fits}
-use borrow.Author.Rules.{rules}
+use Rattle.rectclip.proofs.Stores.{pushed_result}
 use Rattle.rectclip.proofs.arena.push_result.Goals as goal
 
 pub returns : goal.returns

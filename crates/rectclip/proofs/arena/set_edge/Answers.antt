@@ -1,7 +1,5 @@
 -- `rectclip::arena::set_edge` meets its contract: the cell stored is the arena's entry.
-use native.Mathlib.Omega.{arith}
-use Rattle.rectclip.proofs.Stores.{stored_edge, marked_fits}
-use borrow.Author.Rules.{rules}
+use Rattle.rectclip.proofs.Stores.{stored_edge}
 use Rattle.rectclip.proofs.arena.set_edge.Goals as goal
 
 pub returns : goal.returns

@@ -1,7 +1,5 @@
 -- `rectclip::arena::set_entry` meets its contract: the cell stored is the list's entry.
-use native.Mathlib.Omega.{arith}
-use Rattle.rectclip.proofs.Stores.{stored_entry, marked_fits}
-use borrow.Author.Rules.{rules}
+use Rattle.rectclip.proofs.Stores.{stored_entry}
 use Rattle.rectclip.proofs.arena.set_entry.Goals as goal
 
 pub returns : goal.returns

@@ -1,6 +1,5 @@
 -- `rectclip::arena::set_next` meets its contract: the cell stored is the arena's entry.
 use Rattle.rectclip.proofs.Stores.{stored_next}
-use borrow.Author.Rules.{rules}
 use Rattle.rectclip.proofs.arena.set_next.Goals as goal
 
 pub returns : goal.returns

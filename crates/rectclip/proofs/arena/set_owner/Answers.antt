@@ -1,6 +1,5 @@
 -- `rectclip::arena::set_owner` meets its contract: the cell stored is the arena's entry.
 use Rattle.rectclip.proofs.Stores.{stored_owner}
-use borrow.Author.Rules.{rules}
 use Rattle.rectclip.proofs.arena.set_owner.Goals as goal
 
 pub returns : goal.returns

@@ -1,6 +1,5 @@
 -- `rectclip::arena::set_prev` meets its contract: the cell stored is the arena's entry.
 use Rattle.rectclip.proofs.Stores.{stored_prev}
-use borrow.Author.Rules.{rules}
 use Rattle.rectclip.proofs.arena.set_prev.Goals as goal
 
 pub returns : goal.returns

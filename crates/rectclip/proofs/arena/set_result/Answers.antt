@@ -1,7 +1,5 @@
 -- `rectclip::arena::set_result` meets its contract: the cell stored is the arena's entry.
-use native.Mathlib.Omega.{arith}
-use Rattle.rectclip.proofs.Stores.{stored_result, marked_fits}
-use borrow.Author.Rules.{rules}
+use Rattle.rectclip.proofs.Stores.{stored_result}
 use Rattle.rectclip.proofs.arena.set_result.Goals as goal
 
 pub returns : goal.returns

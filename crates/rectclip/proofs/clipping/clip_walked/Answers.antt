@@ -1,6 +1,5 @@
 -- `rectclip::clipping::clip_walked` meets its contract: the definition's steps, in their order.
-use Rattle.rectclip.proofs.Executing.{may_check, may_tidy, tidied_drawn, clipped_full, clipped_done}
-use borrow.Author.Rules.{rules}
+use Rattle.rectclip.proofs.Executing.{may_tidy, clipped_done}
 use Rattle.rectclip.proofs.clipping.clip_walked.Goals as goal
 
 pub tidy_all-tidied-requires : goal.tidy_all-tidied-requires

@@ -1,6 +1,5 @@
 -- `cross_boundary` meets its contract: entering, exiting, or passing right through. Assumes nothing.
 use Rattle.rectclip.proofs.ClosedPass.{crossed_in, crossed_out, crossed_over}
-use borrow.Author.Rules.{rules}
 use Rattle.rectclip.proofs.closed.cross_boundary.Goals as goal
 
 pub returns-then-is_inside : goal.returns-then-is_inside

@@ -1,6 +1,5 @@
 -- `enter` meets its contract: what comes before the point of entry, then the point. Assumes nothing.
 use Rattle.rectclip.proofs.ClosedPass.{enter_walked, enter_refused}
-use borrow.Author.Rules.{rules}
 use Rattle.rectclip.proofs.closed.enter.Goals as goal
 
 pub add-requires : goal.add-requires

@@ -1,6 +1,5 @@
 -- `enter_corners` meets its contract: a start side, no corner, or the corners on the way. Assumes nothing.
 use Rattle.rectclip.proofs.ClosedPass.{corners_of, corners_first, corners_same, corners_other}
-use borrow.Author.Rules.{rules}
 use Rattle.rectclip.proofs.closed.enter_corners.Goals as goal
 
 pub returns-then-is_inside : goal.returns-then-is_inside

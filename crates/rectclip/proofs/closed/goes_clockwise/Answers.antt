@@ -1,6 +1,5 @@
 -- `goes_clockwise` meets its contract; the mid point is within reach. Assumes nothing.
 use Rattle.rectclip.proofs.ClosedPass.{turn_limited}
-use borrow.Author.Rules.{rules}
 use Rattle.rectclip.proofs.closed.goes_clockwise.Goals as goal
 
 pub is_clockwise_dir-requires : goal.is_clockwise_dir-requires

@@ -1,6 +1,5 @@
 -- `leave` meets its contract, by `add`. Assumes nothing.
 use Rattle.rectclip.proofs.ClosedPass.{leave_added}
-use borrow.Author.Rules.{rules}
 use Rattle.rectclip.proofs.closed.leave.Goals as goal
 
 pub returns : goal.returns

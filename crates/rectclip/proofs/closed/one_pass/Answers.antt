@@ -1,6 +1,5 @@
 -- `one_pass` meets its contract: `get_next_location`, and what follows it. Assumes nothing.
 use Rattle.rectclip.proofs.ClosedPasses.{pass_went, pass_lost}
-use borrow.Author.Rules.{rules}
 use Rattle.rectclip.proofs.closed.one_pass.Goals as goal
 
 pub pass_from-requires : goal.pass_from-requires

@@ -1,6 +1,5 @@
 -- `pass_corner` meets its contract, by `add_corner_prev_curr`. Assumes nothing.
 use Rattle.rectclip.proofs.ClosedPass.{corner_turned, corner_kept}
-use borrow.Author.Rules.{rules}
 use Rattle.rectclip.proofs.closed.pass_corner.Goals as goal
 
 pub returns-then-moves_on : goal.returns-then-moves_on

@@ -1,7 +1,6 @@
 -- `pass_from` meets its contract: past the last point, no crossing, or a crossing. Assumes nothing.
 use native.Mathlib.Omega.{arith}
 use Rattle.rectclip.proofs.ClosedPasses.{segment_limited, pass_limited, from_ended, from_outside, from_crossed}
-use borrow.Author.Rules.{rules}
 use Rattle.rectclip.proofs.closed.pass_from.Goals as goal
 
 pub returns-then-path-i : goal.returns-then-path-i

@@ -1,6 +1,5 @@
 -- `pass_in` meets its contract: the corner, the start side, and the point, each where the one before was not refused. Assumes nothing.
-use Rattle.rectclip.proofs.ClosedPass.{corners_of, in_lost, in_stopped, in_added}
-use borrow.Author.Rules.{rules}
+use Rattle.rectclip.proofs.ClosedPass.{in_lost, in_stopped, in_added}
 use Rattle.rectclip.proofs.closed.pass_in.Goals as goal
 
 pub returns-in_default : goal.returns-in_default

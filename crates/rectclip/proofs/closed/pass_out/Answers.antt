@@ -1,6 +1,5 @@
 -- `pass_out` meets its contract: a corner where the segment touches in one point, else the point. Assumes nothing.
 use Rattle.rectclip.proofs.ClosedPass.{out_turned, out_added}
-use borrow.Author.Rules.{rules}
 use Rattle.rectclip.proofs.closed.pass_out.Goals as goal
 
 pub returns-then-equals : goal.returns-then-equals

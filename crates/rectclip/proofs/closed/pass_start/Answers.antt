@@ -1,7 +1,6 @@
 -- `pass_start` meets its contract, by `push_start_loc`. Assumes nothing.
 use Rattle.plane.specs.Rectangle.{no_bounds}
 use Rattle.rectclip.proofs.ClosedPass.{start_pushed, start_kept}
-use borrow.Author.Rules.{rules}
 use Rattle.rectclip.proofs.closed.pass_start.Goals as goal
 
 pub returns-then-is_inside : goal.returns-then-is_inside

@@ -1,7 +1,5 @@
 -- `pass_through` meets its contract: in and out at what the two searches found. Assumes nothing.
 use Rattle.rectclip.proofs.ClosedPass.{passed_through}
-use Rattle.rectclip.proofs.Limits.{searches}
-use borrow.Author.Rules.{rules}
 use Rattle.rectclip.proofs.closed.pass_through.Goals as goal
 
 pub returns : goal.returns

@@ -1,6 +1,5 @@
 -- `pass_to` meets its contract: in and out. Assumes nothing.
 use Rattle.rectclip.proofs.ClosedPass.{to_lost, to_out}
-use borrow.Author.Rules.{rules}
 use Rattle.rectclip.proofs.closed.pass_to.Goals as goal
 
 pub returns-in-Walked : goal.returns-in-Walked

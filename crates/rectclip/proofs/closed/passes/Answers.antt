@@ -1,8 +1,6 @@
 -- `passes` meets its contract: what is left to do after each pass comes to what there was to do at first. Assumes nothing.
-use borrow.Author.Rules.{rules}
 use native.Mathlib.Omega.{arith}
-use mathlib.Core.Path.{◌∙◌}
-use Rattle.rectclip.proofs.ClosedPasses.{ClosedGoing, passes_start, passes_past, passes_lost, passes_again, passes_done}
+use Rattle.rectclip.proofs.ClosedPasses.{passes_start, passes_past, passes_lost, passes_again, passes_done}
 use Rattle.rectclip.proofs.closed.passes.Goals as goal
 
 pub loop-left-init : goal.loop-left-init

@@ -1,8 +1,5 @@
 -- `passes` meets its contract: what is left to do after each pass comes to what there was to do at first. Assumes nothing.
-use borrow.Author.Rules.{rules}
-use native.Mathlib.Omega.{arith}
-use mathlib.Core.Path.{◌∙◌}
-use Rattle.rectclip.proofs.ClosedPasses.{ClosedGoing, passes_start, passes_past, passes_lost, passes_again, passes_done}
+use Rattle.rectclip.proofs.ClosedPasses.{ClosedGoing}
 use Rattle.rectclip.proofs.closed.passes.Given as goal
 
 abbrev pub invariant-loop-left : goal.invariant-loop-left

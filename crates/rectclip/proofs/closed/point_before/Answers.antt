@@ -1,7 +1,6 @@
 -- `point_before` meets its contract: the last point stands before the first. Assumes nothing.
-use Rattle.rectclip.proofs.ClosedPass.{before_some, before_first}
+use Rattle.rectclip.proofs.ClosedPass.{before_first}
 use mathlib.Core.Path.{◌∙◌}
-use borrow.Author.Rules.{rules}
 use Rattle.rectclip.proofs.closed.point_before.Goals as goal
 
 pub returns : goal.returns

@@ -1,6 +1,5 @@
 -- `remain_outside` meets its contract: start sides, corners or neither. Assumes nothing.
 use Rattle.rectclip.proofs.ClosedPass.{corners_of, remain_starts, remain_corners, remain_stays}
-use borrow.Author.Rules.{rules}
 use Rattle.rectclip.proofs.closed.remain_outside.Goals as goal
 
 pub returns-then-is_inside : goal.returns-then-is_inside

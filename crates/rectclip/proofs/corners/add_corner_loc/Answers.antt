@@ -1,6 +1,5 @@
 -- `add_corner_loc` meets its contract, by `add`'s.
 use Rattle.rectclip.proofs.Limits.{close_corner}
-use borrow.Author.Rules.{rules}
 use Rattle.rectclip.proofs.corners.add_corner_loc.Goals as goal
 
 pub add-requires : goal.add-requires

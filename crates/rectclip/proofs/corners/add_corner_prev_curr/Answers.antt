@@ -1,8 +1,6 @@
 -- `add_corner_prev_curr` meets its contract, by `add`'s.
 use mathlib.Core.Path.{sym, ◌∙◌}
-use Rattle.rectclip.proofs.Limits.{close_corner}
 use Rattle.reference.specs.Walk.{add_corner_prev_curr}
-use borrow.Author.Rules.{rules}
 use Rattle.rectclip.proofs.corners.add_corner_prev_curr.Goals as goal
 
 pub returns-then-heading_clockwise : goal.returns-then-heading_clockwise

@@ -1,10 +1,6 @@
 -- `add_corners` meets its contract: each turn adds a corner, until the walk has come to `loc`.
-use mathlib.Core.Path.{◌∙◌}
-use Rattle.rectclip.proofs.Turning.{RoundGoing, corner_round, round_start, round_lost, round_met, round_again, round_done}
+use Rattle.rectclip.proofs.Turning.{corner_round, round_lost, round_met, round_again, round_done}
 use native.Mathlib.Omega.{arith}
-use Prim.Native.Nat.{◌/◌}
-use Rattle.reference.specs.Walk.{no_room, add_corners}
-use borrow.Author.Rules.{rules}
 use Rattle.rectclip.proofs.corners.add_corners.Goals as goal
 
 pub returns-in_default : goal.returns-in_default

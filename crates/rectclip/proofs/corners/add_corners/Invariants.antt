@@ -1,10 +1,7 @@
 -- `add_corners` meets its contract: each turn adds a corner, until the walk has come to `loc`.
-use mathlib.Core.Path.{◌∙◌}
-use Rattle.rectclip.proofs.Turning.{RoundGoing, corner_round, round_start, round_lost, round_met, round_again, round_done}
-use native.Mathlib.Omega.{arith}
+use Rattle.rectclip.proofs.Turning.{RoundGoing}
 use Prim.Native.Nat.{◌/◌}
 use Rattle.reference.specs.Walk.{no_room, add_corners}
-use borrow.Author.Rules.{rules}
 use Rattle.rectclip.proofs.corners.add_corners.Given as goal
 
 abbrev pub invariant-loop-left : goal.invariant-loop-left

@@ -1,11 +1,8 @@
 -- `push_start_locs` meets its contract: each turn makes a side a start side, until the walk has come to `loc`.
-use mathlib.Core.Path.{refl, ◌∙◌}
-use Rattle.rectclip.proofs.Turning.{RoundGoing, side_round, sides_any, round_start, round_lost, round_met, round_again, round_done}
+use mathlib.Core.Path.{refl}
+use Rattle.rectclip.proofs.Turning.{side_round, sides_any, round_lost, round_met, round_again, round_done}
 use native.Mathlib.Omega.{arith}
-use Prim.Native.Nat.{◌/◌}
 use Rattle.plane.specs.Rectangle.{no_bounds}
-use Rattle.reference.specs.Walk.{no_room, push_start_locs}
-use borrow.Author.Rules.{rules}
 use Rattle.rectclip.proofs.corners.push_start_locs.Goals as goal
 
 pub returns-in_default : goal.returns-in_default

@@ -1,11 +1,8 @@
 -- `push_start_locs` meets its contract: each turn makes a side a start side, until the walk has come to `loc`.
-use mathlib.Core.Path.{refl, ◌∙◌}
-use Rattle.rectclip.proofs.Turning.{RoundGoing, side_round, sides_any, round_start, round_lost, round_met, round_again, round_done}
-use native.Mathlib.Omega.{arith}
+use Rattle.rectclip.proofs.Turning.{RoundGoing}
 use Prim.Native.Nat.{◌/◌}
 use Rattle.plane.specs.Rectangle.{no_bounds}
 use Rattle.reference.specs.Walk.{no_room, push_start_locs}
-use borrow.Author.Rules.{rules}
 use Rattle.rectclip.proofs.corners.push_start_locs.Given as goal
 
 abbrev pub invariant-loop-left : goal.invariant-loop-left

@@ -1,7 +1,5 @@
 -- `deliver_copy` meets its contract: refusal 11, or the path as it came.
-use native.Mathlib.Omega.{arith}
-use Rattle.rectclip.proofs.Handing.{copy_short_coordinates, copy_short_lengths, may_copy, copied_all}
-use borrow.Author.Rules.{rules}
+use Rattle.rectclip.proofs.Handing.{copy_short_coordinates, copy_short_lengths, copied_all}
 use Rattle.rectclip.proofs.deliver.deliver_copy.Goals as goal
 
 pub returns-then-coordinates-n : goal.returns-then-coordinates-n

@@ -1,7 +1,5 @@
 -- `deliver_paths` meets its contract: refusal 10, refusal 11, or the counts and the filled lists.
-use native.Mathlib.Omega.{arith}
 use Rattle.rectclip.proofs.Handing.{spent, short_of_coordinates, short_of_lengths, may_read, read_all}
-use borrow.Author.Rules.{rules}
 use Rattle.rectclip.proofs.deliver.deliver_paths.Goals as goal
 
 pub returns-then-c : goal.returns-then-c

@@ -1,7 +1,5 @@
 -- `rectclip::edges::add_to_edge` meets its contract, one law for each way.
 use Rattle.rectclip.proofs.EdgeLists.{entered_before, entered}
-use mathlib.Core.Path.{sym, ◌∙◌}
-use borrow.Author.Rules.{rules}
 use Rattle.rectclip.proofs.edges.add_to_edge.Goals as goal
 
 pub returns-then-edge_of-ne-NONE : goal.returns-then-edge_of-ne-NONE

@@ -1,8 +1,5 @@
 -- `rectclip::edges::assign_edges` meets its contract: the loop goes round as the definition does.
-use native.Mathlib.Omega.{arith}
-use borrow.Author.Rules.{rules}
-use mathlib.Core.Path.{◌∙◌}
-use Rattle.rectclip.proofs.EdgeLists.{Assigned, assigned_start, assigned_may, assigned_again, assigned_stop, assigned_out}
+use Rattle.rectclip.proofs.EdgeLists.{assigned_may, assigned_again, assigned_stop, assigned_out}
 use Rattle.rectclip.proofs.edges.assign_edges.Goals as goal
 
 pub assign_node-at-requires : goal.assign_node-at-requires

@@ -1,7 +1,6 @@
 -- `rectclip::edges::assign_node` meets its contract: the four sides in their order.
 use native.Mathlib.Omega.{arith}
 use Rattle.rectclip.proofs.EdgeLists.{node_off, node_before, node_on, assigning_on}
-use borrow.Author.Rules.{rules}
 use Rattle.rectclip.proofs.edges.assign_node.Goals as goal
 
 pub returns-then-set2-eq0 : goal.returns-then-set2-eq0

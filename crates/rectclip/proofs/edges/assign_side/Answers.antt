@@ -3,7 +3,6 @@ use native.Mathlib.Omega.{arith}
 use mathlib.Core.Path.{sym, ◌∙◌}
 use Rattle.rectclip.proofs.Becoming.{enters_same, enters_renamed}
 use Rattle.rectclip.proofs.EdgeLists.{may_enter, assign_none, assign_one, assign_both}
-use borrow.Author.Rules.{rules}
 use Rattle.rectclip.proofs.edges.assign_side.Goals as goal
 
 pub add_to_edge-requires : goal.add_to_edge-requires

@@ -1,7 +1,6 @@
 -- `rectclip::edges::check_edges` meets its contract: the results in their order.
 use native.Mathlib.Omega.{arith}
-use Prim.Native.Nat.{◌-◌}
-use Rattle.rectclip.proofs.Checking.{Checked, checked_start, checked_may, checked_again, checked_all}
+use Rattle.rectclip.proofs.Checking.{checked_may, checked_again, checked_all}
 use Rattle.rectclip.proofs.edges.check_edges.Goals as goal
 
 pub check_result-at-requires : goal.check_result-at-requires

@@ -1,7 +1,6 @@
 -- `rectclip::edges::check_edges` meets its contract: the results in their order.
-use native.Mathlib.Omega.{arith}
 use Prim.Native.Nat.{◌-◌}
-use Rattle.rectclip.proofs.Checking.{Checked, checked_start, checked_may, checked_again, checked_all}
+use Rattle.rectclip.proofs.Checking.{Checked}
 use Rattle.rectclip.proofs.edges.check_edges.Given as goal
 
 abbrev pub invariant-loop-i : goal.invariant-loop-i

@@ -1,7 +1,5 @@
 -- `rectclip::edges::check_result` meets its contract, one law for each way.
-use Rattle.rectclip.proofs.Checking.{result_none, result_passing, result_dropped, result_may, result_assigned}
-use mathlib.Core.Path.{refl}
-use borrow.Author.Rules.{rules}
+use Rattle.rectclip.proofs.Checking.{result_none, result_dropped, result_may, result_assigned}
 use Rattle.rectclip.proofs.edges.check_result.Goals as goal
 
 pub returns-then-start-eq-NONE : goal.returns-then-start-eq-NONE

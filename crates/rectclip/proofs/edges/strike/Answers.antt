@@ -1,10 +1,5 @@
 -- `rectclip::edges::strike` meets its contract: the first entry that is the node, if there is one.
-use native.Mathlib.Omega.{arith}
-use borrow.Author.Rules.{rules}
-use mathlib.Core.Path.{refl, ap, ◌∙◌}
-use Prim.Native.Nat.{◌-◌}
-use lib.ListN.{length, get_or}
-use Rattle.rectclip.proofs.Striking.{Striking, striking_start, striking_holds, striking_again, striking_found, striking_none}
+use Rattle.rectclip.proofs.Striking.{striking_found, striking_none}
 use Rattle.rectclip.proofs.edges.strike.Goals as goal
 
 pub returns-then-entry_of-op : goal.returns-then-entry_of-op

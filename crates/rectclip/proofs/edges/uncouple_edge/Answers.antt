@@ -1,7 +1,5 @@
 -- `rectclip::edges::uncouple_edge` meets its contract, one law for each way.
-use mathlib.Core.Path.{refl, ◌∙◌}
 use Rattle.rectclip.proofs.Striking.{uncoupled_before, uncoupled}
-use borrow.Author.Rules.{rules}
 use Rattle.rectclip.proofs.edges.uncouple_edge.Goals as goal
 
 pub returns-then-e-eq-NONE : goal.returns-then-e-eq-NONE

@@ -1,12 +1,9 @@
 -- `rectclip::idle::idle_along` meets its contract: each pass is a turn of the definition that changes nothing.
 use native.Mathlib.Omega.{arith}
 use Prim.Native.Nat.{◌+◌, ◌*◌}
-use Rattle.rectclip.specs.Arenas.{arena_at}
-use Rattle.rectclip.specs.Stored.{points_in}
-use Rattle.rectclip.specs.Turns.{Idled}
 use Rattle.rectclip.proofs.Seeking.{sought_there}
 use Rattle.rectclip.proofs.Turns.{live_root}
-use Rattle.rectclip.proofs.Idling.{live_entry, idled_start, idled_sought, idled_apart}
+use Rattle.rectclip.proofs.Idling.{live_entry, idled_sought, idled_apart}
 use Rattle.rectclip.proofs.idle.idle_along.Goals as goal
 
 pub returns-then-len-j : goal.returns-then-len-j

@@ -1,12 +1,8 @@
 -- `rectclip::idle::idle_turns` meets its contract: the turns at one clockwise entry, and one turn to the next entry.
-use native.Mathlib.Omega.{arith}
-use Prim.Native.Nat.{◌*◌, ◌-◌}
-use borrow.Author.Tests.{not-false}
+use Prim.Native.Nat.{◌-◌}
 use Rattle.rectclip.specs.Arenas.{arena_at}
 use Rattle.rectclip.specs.Stored.{points_in}
 use Rattle.rectclip.specs.Turns.{Idled}
-use Rattle.rectclip.proofs.Turns.{root_in}
-use Rattle.rectclip.proofs.Idling.{may_idle, idled_start, idled_on, idled_end}
 use Rattle.rectclip.proofs.idle.idle_turns.Given as goal
 
 abbrev pub invariant-loop-i : goal.invariant-loop-i

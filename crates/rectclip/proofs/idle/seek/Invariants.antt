@@ -1,9 +1,6 @@
 -- `rectclip::idle::seek` meets its contract: the entries in their order.
-use native.Mathlib.Omega.{arith}
-use mathlib.Core.Path.{refl}
 use Prim.Native.Nat.{◌-◌}
-use Rattle.rectclip.proofs.Seeking.{SeekingOn, seeking_again, seeking_found, seeking_end}
-use Rattle.rectclip.proofs.Turns.{root_in}
+use Rattle.rectclip.proofs.Seeking.{SeekingOn}
 use Rattle.rectclip.proofs.idle.seek.Given as goal
 
 abbrev pub invariant-loop-j : goal.invariant-loop-j

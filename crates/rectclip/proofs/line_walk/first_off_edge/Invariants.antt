@@ -1,8 +1,6 @@
 -- `first_off_edge` meets its contract: the search from point `i` on is the search from the second on.
-use mathlib.Core.Path.{refl}
 use Prim.Native.Nat.{◌-◌}
-use Rattle.rectclip.proofs.Passing.{Seeking, seek_found, seek_again, seek_ends}
-use borrow.Author.Rules.{rules}
+use Rattle.rectclip.proofs.Passing.{Seeking}
 use Rattle.rectclip.proofs.line_walk.first_off_edge.Given as goal
 
 abbrev pub invariant-loop-i : goal.invariant-loop-i

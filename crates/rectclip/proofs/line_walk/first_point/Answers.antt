@@ -5,10 +5,7 @@ use lib.ListN.{length}
 use Rattle.plane.specs.Points.{points_of}
 use Rattle.reference.specs.Walk.{no_room, add}
 use mathlib.Core.Bool.{false}
-use Rattle.rectclip.proofs.Limits.{path_limited}
-use Rattle.rectclip.proofs.Reach.{reached}
 use Rattle.rectclip.proofs.Opening.{fits_fresh, from_fresh, fresh_walked, first_inside, first_outside, step_by}
-use borrow.Author.Rules.{rules}
 use Rattle.rectclip.proofs.line_walk.first_point.Goals as goal
 
 pub returns-then-is_inside : goal.returns-then-is_inside

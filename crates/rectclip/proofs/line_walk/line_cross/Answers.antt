@@ -1,8 +1,6 @@
 -- `line_cross` meets its contract: entering, passing right through, or exiting.
 use mathlib.Core.Path.{sym, ◌∙◌}
-use borrow.Author.Tests.{not-true, not-false}
 use Rattle.rectclip.proofs.Crossing.{entered, passed, exited}
-use borrow.Author.Rules.{rules}
 use Rattle.rectclip.proofs.line_walk.line_cross.Goals as goal
 
 pub returns-then-is_inside : goal.returns-then-is_inside

@@ -1,9 +1,7 @@
 -- `line_from` meets its contract: past the last point, no crossing, or a crossing.
 use Rattle.rectclip.proofs.Limits.{path_limited, searches}
-use Rattle.rectclip.proofs.Reach.{reached}
 use Prim.Native.Nat.{◌-◌}
 use Rattle.rectclip.proofs.Crossing.{from_over, from_next, from_crossing}
-use borrow.Author.Rules.{rules}
 use Rattle.rectclip.proofs.line_walk.line_from.Goals as goal
 
 pub returns-then-path-i : goal.returns-then-path-i

@@ -6,7 +6,6 @@ use Rattle.plane.specs.Points.{points_of}
 use Rattle.reference.specs.Walk.{no_room}
 use Rattle.reference.specs.Lines.{line_from}
 use Rattle.rectclip.proofs.Passing.{move_then, move_stops}
-use borrow.Author.Rules.{rules}
 use Rattle.rectclip.proofs.line_walk.line_pass.Goals as goal
 
 pub returns-in_default : goal.returns-in_default

@@ -1,8 +1,6 @@
 -- `line_passes` meets its contract: the passes that are left now are those that there were.
-use mathlib.Core.Path.{◌∙◌}
 use native.Mathlib.Omega.{arith}
-use Rattle.rectclip.proofs.Passing.{PassesGoing, passes_start, passes_past, passes_lost, passes_again, passes_done}
-use borrow.Author.Rules.{rules}
+use Rattle.rectclip.proofs.Passing.{passes_past, passes_lost, passes_again, passes_done}
 use Rattle.rectclip.proofs.line_walk.line_passes.Goals as goal
 
 pub returns-then-n-i : goal.returns-then-n-i

@@ -1,7 +1,5 @@
 -- `line_through` meets its contract: the second search, and two points added.
-use Rattle.rectclip.proofs.Limits.{searches}
 use Rattle.rectclip.proofs.Crossing.{through_stop, through_go}
-use borrow.Author.Rules.{rules}
 use Rattle.rectclip.proofs.line_walk.line_through.Goals as goal
 
 pub returns-in_default : goal.returns-in_default

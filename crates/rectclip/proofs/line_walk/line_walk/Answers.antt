@@ -4,9 +4,7 @@ use Prim.Native.Nat.{◌/◌}
 use lib.ListN.{length}
 use Rattle.plane.specs.Points.{points_of}
 use Rattle.reference.specs.Walk.{no_room, add_all}
-use native.Mathlib.Omega.{arith}
 use Rattle.rectclip.proofs.Opening.{fits_fresh, from_fresh, fresh_walked, open_short, open_off, open_edges, open_inside, open_outside, step_by}
-use borrow.Author.Rules.{rules}
 use Rattle.rectclip.proofs.line_walk.line_walk.Goals as goal
 
 pub returns-then-path-lt2 : goal.returns-then-path-lt2

@@ -1,7 +1,5 @@
 -- `line_walk_from` meets its contract: the first point, and the passes.
-use native.Mathlib.Omega.{arith}
 use Rattle.rectclip.proofs.Opening.{walk_lost, walk_passed}
-use borrow.Author.Rules.{rules}
 use Rattle.rectclip.proofs.line_walk.line_walk_from.Goals as goal
 
 pub returns-in_default : goal.returns-in_default

@@ -1,7 +1,5 @@
 -- `deliver_lines` meets its contract: refusal 11, or the counts and the filled lists.
-use native.Mathlib.Omega.{arith}
-use Rattle.rectclip.proofs.Delivering.{refused_coordinates, refused_lengths, writes, drawn_all, counts_fit}
-use borrow.Author.Rules.{rules}
+use Rattle.rectclip.proofs.Delivering.{refused_coordinates, refused_lengths, drawn_all}
 use Rattle.rectclip.proofs.lines.deliver_lines.Goals as goal
 
 pub returns-then-coordinates-points : goal.returns-then-coordinates-points

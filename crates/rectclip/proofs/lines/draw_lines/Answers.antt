@@ -2,11 +2,9 @@
 use mathlib.Core.Path.{sym, ◌∙◌, ap}
 use Prim.Native.Nat.{◌/◌}
 use lib.ListN.{length}
-use borrow.Author.Tests.{not-true, not-false}
 use Rattle.plane.specs.Rectangle.{intersects}
 use Rattle.rectclip.proofs.Walking.{walked_is, refused_is}
 use Rattle.rectclip.proofs.Entering.{line_empty, line_missed, line_walked, line_refused, leaves_none, leaves_drawing, leaves_refusal}
-use borrow.Author.Rules.{rules}
 use Rattle.rectclip.proofs.lines.draw_lines.Goals as goal
 
 pub returns-then-is_empty : goal.returns-then-is_empty

@@ -2,8 +2,7 @@
 use Prim.Native.Nat.{◌-◌}
 use lib.ListN.{length}
 use lib.IntN.{pos}
-use borrow.Author.Rules.{rules}
-use Rattle.rectclip.proofs.Clearing.{Cleared, cleared_none, cleared_more, cleared_all}
+use Rattle.rectclip.proofs.Clearing.{Cleared}
 use Rattle.rectclip.proofs.lists.clear_store.Given as goal
 
 abbrev pub invariant-loop-i : goal.invariant-loop-i

@@ -1,8 +1,7 @@
 -- `rectclip::lists::clear_work` meets its contract: the entries passed are zero, and the loop passes all.
 use Prim.Native.Nat.{◌-◌}
 use lib.ListN.{length}
-use borrow.Author.Rules.{rules}
-use Rattle.rectclip.proofs.Clearing.{Cleared, cleared_none, cleared_more, cleared_all}
+use Rattle.rectclip.proofs.Clearing.{Cleared}
 use Rattle.rectclip.proofs.lists.clear_work.Given as goal
 
 abbrev pub invariant-loop-i : goal.invariant-loop-i

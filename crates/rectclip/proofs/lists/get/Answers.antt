@@ -1,7 +1,5 @@
 -- `get` meets its contract: what the list holds fits the answer.
 use Rattle.rectclip.specs.Memory.{at}
-use native.Mathlib.Omega.{arith}
-use Prim.Native.Nat.{◌+◌, ◌*◌}
 use borrow.Author.Rules.{rules}
 use Rattle.rectclip.proofs.lists.get.Goals as goal
 

@@ -2,7 +2,6 @@
 use mathlib.Core.Path.{sym, ◌∙◌}
 use Rattle.rectclip.proofs.Scanning.{next_as_inside}
 use Rattle.rectclip.proofs.Moving.{outside_moved}
-use borrow.Author.Rules.{rules}
 use Rattle.rectclip.proofs.next.get_next_location.Goals as goal
 
 pub returns-then-is_inside : goal.returns-then-is_inside

@@ -1,11 +1,6 @@
 -- `next_inside` meets its contract: what is left to do from point `i` on is what there was to do.
-use mathlib.Core.Path.{◌∙◌}
 use Prim.Native.Nat.{◌-◌}
-use borrow.Author.Tests.{not-true, not-false}
-use Rattle.rectclip.proofs.Limits.{path_limited}
-use Rattle.rectclip.proofs.Reach.{reached}
-use Rattle.rectclip.proofs.Moving.{InsideGoing, inside_starts, inside_exits, inside_again, inside_lost, inside_ends}
-use borrow.Author.Rules.{rules}
+use Rattle.rectclip.proofs.Moving.{InsideGoing}
 use Rattle.rectclip.proofs.next.next_inside.Given as goal
 
 abbrev pub invariant-loop-i : goal.invariant-loop-i

@@ -1,6 +1,5 @@
 -- `next_outside` meets its contract, by the scan and the test of the point where it ends.
 use Rattle.rectclip.proofs.Scanning.{outside_past, outside_met}
-use borrow.Author.Rules.{rules}
 use Rattle.rectclip.proofs.next.next_outside.Goals as goal
 
 pub returns-then-path-i : goal.returns-then-path-i

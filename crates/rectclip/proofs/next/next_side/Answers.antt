@@ -1,6 +1,5 @@
 -- `next_side` meets its contract: the three tests, in order.
 use Rattle.rectclip.proofs.Scanning.{side_across, side_lower, side_upper, side_inside}
-use borrow.Author.Rules.{rules}
 use Rattle.rectclip.proofs.next.next_side.Goals as goal
 
 pub returns-then-beyond_or_on : goal.returns-then-beyond_or_on

@@ -1,10 +1,7 @@
 -- `scan` meets its contract: what is left to pass over from `i` on ends where the whole scan ends.
 use mathlib.Core.Path.{refl}
-use borrow.Author.Tests.{not-true, not-false}
 use Rattle.integers.specs.Tests.{back}
-use Prim.Native.Nat.{◌-◌}
-use Rattle.rectclip.proofs.Scanning.{Scanning, scan_stops, scan_again, scan_ends}
-use borrow.Author.Rules.{rules}
+use Rattle.rectclip.proofs.Scanning.{scan_stops, scan_again, scan_ends}
 use Rattle.rectclip.proofs.next.scan.Goals as goal
 
 pub returns-then-not-is_past : goal.returns-then-not-is_past

@@ -1,10 +1,6 @@
 -- `scan` meets its contract: what is left to pass over from `i` on ends where the whole scan ends.
-use mathlib.Core.Path.{refl}
-use borrow.Author.Tests.{not-true, not-false}
-use Rattle.integers.specs.Tests.{back}
 use Prim.Native.Nat.{◌-◌}
-use Rattle.rectclip.proofs.Scanning.{Scanning, scan_stops, scan_again, scan_ends}
-use borrow.Author.Rules.{rules}
+use Rattle.rectclip.proofs.Scanning.{Scanning}
 use Rattle.rectclip.proofs.next.scan.Given as goal
 
 abbrev pub invariant-loop-i : goal.invariant-loop-i

@@ -1,7 +1,6 @@
 -- `add_round` meets its contract, by `add_all` of the corners. Assumes nothing.
 use mathlib.Core.Bool.{true, false}
 use Rattle.rectclip.proofs.RectPath.{round_adds, round_added}
-use borrow.Author.Rules.{rules}
 use Rattle.rectclip.proofs.outline.add_round.Goals as goal
 
 pub add_all-requires : goal.add_all-requires

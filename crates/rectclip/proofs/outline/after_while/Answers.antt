@@ -1,7 +1,6 @@
 -- `after_while` meets its contract, by its four cases. Assumes nothing.
 use mathlib.Core.Path.{refl}
 use Rattle.rectclip.proofs.Outlining.{after_inside, after_surround, after_closes, after_stays}
-use borrow.Author.Rules.{rules}
 use Rattle.rectclip.proofs.outline.after_while.Goals as goal
 
 pub returns-then-is_inside-2 : goal.returns-then-is_inside-2

@@ -1,11 +1,7 @@
 -- `close_outline` meets its contract: each turn goes one start side back. Assumes nothing.
 use Rattle.rectclip.proofs.Closing.{step_as}
-use Rattle.rectclip.proofs.Retracing.{Retracing, close_parts, retrace_start, sides_kept, retrace_again, retrace_lost, retrace_done}
-use Prim.Native.Nat.{◌-◌}
-use borrow.Author.Rules.{rules}
-use native.Mathlib.Omega.{arith}
-use mathlib.Core.Path.{◌∙◌}
-use Rattle.rectclip.proofs.Retracing.{Retracing, retrace_start, sides_kept, retrace_again, retrace_lost, retrace_done}
+use Rattle.rectclip.proofs.Retracing.{close_parts, retrace_again, retrace_lost, retrace_done}
+use Rattle.rectclip.proofs.Retracing.{retrace_again, retrace_lost, retrace_done}
 use Rattle.rectclip.proofs.outline.close_outline.Goals as goal
 
 pub returns-in_default : goal.returns-in_default

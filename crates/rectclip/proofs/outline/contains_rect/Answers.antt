@@ -1,6 +1,5 @@
 -- `contains_rect` meets its contract: bounds first, then the corners. Assumes nothing.
-use Rattle.rectclip.proofs.RectPath.{both_paths, contains_none, contains_asked}
-use borrow.Author.Rules.{rules}
+use Rattle.rectclip.proofs.RectPath.{both_paths}
 use Rattle.rectclip.proofs.outline.contains_rect.Goals as goal
 
 pub path1_contains_path2-requires : goal.path1_contains_path2-requires

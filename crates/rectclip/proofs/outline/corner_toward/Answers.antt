@@ -1,6 +1,5 @@
 -- `corner_toward` meets its contract, by `add_corner_loc`. Assumes nothing.
 use Rattle.rectclip.proofs.Retracing.{toward_kept, toward_added}
-use borrow.Author.Rules.{rules}
 use Rattle.rectclip.proofs.outline.corner_toward.Goals as goal
 
 pub returns-then-equals : goal.returns-then-equals

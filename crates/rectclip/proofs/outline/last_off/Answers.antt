@@ -1,7 +1,6 @@
 -- `last_off` meets its contract: the search backwards. Assumes nothing.
-use borrow.Author.Rules.{rules}
 use native.Mathlib.Omega.{arith}
-use Rattle.rectclip.proofs.ClosedWalk.{Seeking, seek_start, seek_found, seek_again, seek_ends}
+use Rattle.rectclip.proofs.ClosedWalk.{seek_found, seek_again, seek_ends}
 use Rattle.rectclip.proofs.outline.last_off.Goals as goal
 
 pub returns-then-spot : goal.returns-then-spot

@@ -1,7 +1,5 @@
 -- `last_off` meets its contract: the search backwards. Assumes nothing.
-use borrow.Author.Rules.{rules}
-use native.Mathlib.Omega.{arith}
-use Rattle.rectclip.proofs.ClosedWalk.{Seeking, seek_start, seek_found, seek_again, seek_ends}
+use Rattle.rectclip.proofs.ClosedWalk.{Seeking}
 use Rattle.rectclip.proofs.outline.last_off.Given as goal
 
 abbrev pub invariant-loop-i : goal.invariant-loop-i

@@ -1,7 +1,6 @@
 -- `start_loc` meets its contract. Assumes nothing.
 use native.Mathlib.Omega.{arith}
 use Rattle.rectclip.proofs.StartSides.{location_is, location_rest}
-use borrow.Author.Rules.{rules}
 use Rattle.rectclip.proofs.outline.start_loc.Goals as goal
 
 pub returns-in-0 : goal.returns-in-0

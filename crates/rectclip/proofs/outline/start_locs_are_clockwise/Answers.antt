@@ -1,7 +1,5 @@
 -- `start_locs_are_clockwise` meets its contract: steps counted each way come to the definition's sum. Assumes nothing.
-use Prim.Native.Nat.{◌-◌}
-use native.Mathlib.Omega.{arith}
-use Rattle.rectclip.proofs.StartSides.{Counting, count_start, count_again, count_done}
+use Rattle.rectclip.proofs.StartSides.{count_again, count_done}
 use Rattle.rectclip.proofs.outline.start_locs_are_clockwise.Goals as goal
 
 pub loop-i-preserved : goal.loop-i-preserved

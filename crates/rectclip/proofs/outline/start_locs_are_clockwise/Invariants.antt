@@ -1,7 +1,6 @@
 -- `start_locs_are_clockwise` meets its contract: steps counted each way come to the definition's sum. Assumes nothing.
 use Prim.Native.Nat.{◌-◌}
-use native.Mathlib.Omega.{arith}
-use Rattle.rectclip.proofs.StartSides.{Counting, count_start, count_again, count_done}
+use Rattle.rectclip.proofs.StartSides.{Counting}
 use Rattle.rectclip.proofs.outline.start_locs_are_clockwise.Given as goal
 
 abbrev pub invariant-loop-i : goal.invariant-loop-i

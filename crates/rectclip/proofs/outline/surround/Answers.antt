@@ -1,9 +1,7 @@
 -- `surround` meets its contract: nothing, or the four corners. Assumes nothing.
 use mathlib.Core.Path.{ap}
 use mathlib.Core.Bool.{not}
-use native.Mathlib.Omega.{arith}
 use Rattle.rectclip.proofs.Outlining.{surround_none, surround_all}
-use borrow.Author.Rules.{rules}
 use Rattle.rectclip.proofs.outline.surround.Goals as goal
 
 pub returns-then-not-contains_rect : goal.returns-then-not-contains_rect

@@ -1,6 +1,5 @@
 -- `walk_closed` meets its contract: no points, off the edges at once, all on the edges, or the last point off them tells. Assumes nothing.
 use Rattle.rectclip.proofs.ClosedWalk.{new_fits, walk_none, walk_off, walk_edges, walk_inside, walk_outside}
-use borrow.Author.Rules.{rules}
 use Rattle.rectclip.proofs.outline.walk_closed.Goals as goal
 
 pub returns-then-n-eq0 : goal.returns-then-n-eq0

@@ -1,6 +1,5 @@
 -- `walk_from` meets its contract: the passes, and what follows them. Assumes nothing.
 use Rattle.rectclip.proofs.ClosedWalk.{start_fits, from_on, from_lost}
-use borrow.Author.Rules.{rules}
 use Rattle.rectclip.proofs.outline.walk_from.Goals as goal
 
 pub passes-requires : goal.passes-requires

@@ -1,7 +1,5 @@
 -- `rectclip::paths::count_nodes` meets its contract: the loop goes round as the definition does.
-use native.Mathlib.Omega.{arith}
-use borrow.Author.Rules.{rules}
-use Rattle.rectclip.proofs.Counting.{Counting, counting_start, counting_again, counting_stop, counting_out}
+use Rattle.rectclip.proofs.Counting.{Counting}
 use Rattle.rectclip.proofs.paths.count_nodes.Given as goal
 
 abbrev pub invariant-loop-left : goal.invariant-loop-left

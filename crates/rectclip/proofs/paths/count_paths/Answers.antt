@@ -1,7 +1,5 @@
 -- `rectclip::paths::count_paths` meets its contract: the results in their order.
-use native.Mathlib.Omega.{arith}
-use Prim.Native.Nat.{◌-◌}
-use Rattle.rectclip.proofs.Counting.{CountingAll, all_start, all_again, all_counted}
+use Rattle.rectclip.proofs.Counting.{all_again, all_counted}
 use Rattle.rectclip.proofs.paths.count_paths.Goals as goal
 
 pub loop-i-preserved : goal.loop-i-preserved

@@ -1,7 +1,6 @@
 -- `rectclip::paths::count_paths` meets its contract: the results in their order.
-use native.Mathlib.Omega.{arith}
 use Prim.Native.Nat.{◌-◌}
-use Rattle.rectclip.proofs.Counting.{CountingAll, all_start, all_again, all_counted}
+use Rattle.rectclip.proofs.Counting.{CountingAll}
 use Rattle.rectclip.proofs.paths.count_paths.Given as goal
 
 abbrev pub invariant-loop-i : goal.invariant-loop-i

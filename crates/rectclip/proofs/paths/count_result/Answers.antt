@@ -1,8 +1,5 @@
 -- `rectclip::paths::count_result` meets its contract, one law for each way.
-use native.Mathlib.Omega.{arith}
-use mathlib.Core.Path.{◌∙◌}
-use Rattle.rectclip.proofs.Counting.{counts_fit, counts_none, counts_some}
-use borrow.Author.Rules.{rules}
+use Rattle.rectclip.proofs.Counting.{counts_none, counts_some}
 use Rattle.rectclip.proofs.paths.count_result.Goals as goal
 
 pub returns-then-start-eq-NONE : goal.returns-then-start-eq-NONE

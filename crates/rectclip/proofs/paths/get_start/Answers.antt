@@ -1,7 +1,6 @@
 -- `rectclip::paths::get_start` meets its contract, one law for each way.
 use mathlib.Core.Path.{sym, ◌∙◌}
 use Rattle.rectclip.proofs.Starts.{start_none, start_stub, start_lost, start_small, start_left}
-use borrow.Author.Rules.{rules}
 use Rattle.rectclip.proofs.paths.get_start.Goals as goal
 
 pub returns-then-op-eq-NONE : goal.returns-then-op-eq-NONE

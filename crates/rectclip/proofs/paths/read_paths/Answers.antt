@@ -1,7 +1,5 @@
 -- `rectclip::paths::read_paths` meets its contract: the results in their order.
-use native.Mathlib.Omega.{arith}
-use Prim.Native.Nat.{◌-◌}
-use Rattle.rectclip.proofs.WriteOut.{WritingOn, writing_start, writing_may, writing_again, writing_all}
+use Rattle.rectclip.proofs.WriteOut.{writing_may, writing_again, writing_all}
 use Rattle.rectclip.proofs.paths.read_paths.Goals as goal
 
 pub read_result-so_far-requires : goal.read_result-so_far-requires

@@ -1,7 +1,6 @@
 -- `rectclip::paths::read_paths` meets its contract: the results in their order.
-use native.Mathlib.Omega.{arith}
 use Prim.Native.Nat.{◌-◌}
-use Rattle.rectclip.proofs.WriteOut.{WritingOn, writing_start, writing_may, writing_again, writing_all}
+use Rattle.rectclip.proofs.WriteOut.{WritingOn}
 use Rattle.rectclip.proofs.paths.read_paths.Given as goal
 
 abbrev pub invariant-loop-i : goal.invariant-loop-i

@@ -1,9 +1,5 @@
 -- `rectclip::paths::read_points` meets its contract: the loop goes round as the definition does.
-use native.Mathlib.Omega.{arith}
-use borrow.Author.Rules.{rules}
-use mathlib.Core.Path.{ap, ◌∙◌}
-use lib.ListN.{length}
-use Rattle.rectclip.proofs.ReadOut.{point_length, ReadingOn, first_room, reading_start, reading_done, reading_room, reading_again, reading_stop, reading_out}
+use Rattle.rectclip.proofs.ReadOut.{ReadingOn}
 use Rattle.rectclip.proofs.paths.read_points.Given as goal
 
 abbrev pub invariant-loop-left : goal.invariant-loop-left

@@ -2,7 +2,6 @@
 use native.Mathlib.Omega.{arith}
 use mathlib.Core.Path.{◌∙◌}
 use Rattle.rectclip.proofs.WriteOut.{write_none, write_room, write_length, write_small, write_one}
-use borrow.Author.Rules.{rules}
 use Rattle.rectclip.proofs.paths.read_result.Goals as goal
 
 pub returns-then-start-eq-NONE : goal.returns-then-start-eq-NONE

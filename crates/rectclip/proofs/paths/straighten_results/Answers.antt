@@ -1,8 +1,5 @@
 -- `rectclip::paths::straighten_results` meets its contract: the results in their order.
-use native.Mathlib.Omega.{arith}
-use mathlib.Core.Path.{◌∙◌}
-use Prim.Native.Nat.{◌-◌}
-use Rattle.rectclip.proofs.Starts.{Straightened, straightened_start, straightened_again, straightened_all}
+use Rattle.rectclip.proofs.Starts.{straightened_again, straightened_all}
 use Rattle.rectclip.proofs.paths.straighten_results.Goals as goal
 
 pub loop-i-preserved : goal.loop-i-preserved

@@ -1,8 +1,6 @@
 -- `rectclip::paths::straighten_results` meets its contract: the results in their order.
-use native.Mathlib.Omega.{arith}
-use mathlib.Core.Path.{◌∙◌}
 use Prim.Native.Nat.{◌-◌}
-use Rattle.rectclip.proofs.Starts.{Straightened, straightened_start, straightened_again, straightened_all}
+use Rattle.rectclip.proofs.Starts.{Straightened}
 use Rattle.rectclip.proofs.paths.straighten_results.Given as goal
 
 abbrev pub invariant-loop-i : goal.invariant-loop-i

@@ -1,8 +1,5 @@
 -- `copy_points` meets its contract: the points up to `i` stand in the list.
-use Prim.Native.Nat.{◌-◌}
-use native.Mathlib.Omega.{arith}
-use Rattle.rectclip.proofs.Writing.{Copying, copying_none, copying_more, copying_fits, copying_done}
-use borrow.Author.Rules.{rules}
+use Rattle.rectclip.proofs.Writing.{copying_more}
 use Rattle.rectclip.proofs.pieces.copy_points.Goals as goal
 
 pub loop-i-preserved : goal.loop-i-preserved

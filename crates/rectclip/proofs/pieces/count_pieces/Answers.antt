@@ -1,8 +1,5 @@
 -- `count_pieces` meets its contract: the results up to `j` are counted, and their points.
-use Prim.Native.Nat.{◌-◌}
-use native.Mathlib.Omega.{arith}
-use Rattle.rectclip.proofs.Results.{Counting, counting_none, count_more, count_same, count_fits, count_done}
-use borrow.Author.Rules.{rules}
+use Rattle.rectclip.proofs.Results.{count_more, count_same, count_done}
 use Rattle.rectclip.proofs.pieces.count_pieces.Goals as goal
 
 pub loop-j-preserved-then-from-to : goal.loop-j-preserved-then-from-to

@@ -1,8 +1,6 @@
 -- `count_pieces` meets its contract: the results up to `j` are counted, and their points.
 use Prim.Native.Nat.{◌-◌}
-use native.Mathlib.Omega.{arith}
-use Rattle.rectclip.proofs.Results.{Counting, counting_none, count_more, count_same, count_fits, count_done}
-use borrow.Author.Rules.{rules}
+use Rattle.rectclip.proofs.Results.{Counting}
 use Rattle.rectclip.proofs.pieces.count_pieces.Given as goal
 
 abbrev pub invariant-loop-j : goal.invariant-loop-j

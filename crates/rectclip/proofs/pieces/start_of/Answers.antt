@@ -1,7 +1,6 @@
 -- `start_of` meets its contract: a result's start, or the end of the points.
 use mathlib.Core.Path.{refl}
 use borrow.Author.Tests.{lt-ltb, le-ltb}
-use borrow.Author.Rules.{rules}
 use Rattle.rectclip.proofs.pieces.start_of.Goals as goal
 
 pub returns-then-j-s : goal.returns-then-j-s

@@ -1,9 +1,6 @@
 -- `write_pieces` meets its contract: the results up to `j` stand in the two lists.
 use Prim.Native.Nat.{◌-◌}
-use native.Mathlib.Omega.{arith}
-use Rattle.rectclip.proofs.Results.{count_fits}
-use Rattle.rectclip.proofs.Writing.{Writing, writing_none, writes_piece, writes_slot, writing_more, writing_same, writing_done}
-use borrow.Author.Rules.{rules}
+use Rattle.rectclip.proofs.Writing.{Writing}
 use Rattle.rectclip.proofs.pieces.write_pieces.Given as goal
 
 abbrev pub invariant-loop-j : goal.invariant-loop-j

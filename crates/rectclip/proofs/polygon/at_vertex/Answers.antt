@@ -1,11 +1,10 @@
 -- `at_vertex` meets its contract. Assumes nothing.
-use mathlib.Core.Path.{sym, ap, ◌∙◌, subst}
+use mathlib.Core.Path.{ap, ◌∙◌}
 use Prim.Native.Nat.{ℕ}
 use mir.Syntax.{w64}
 use mir.Val.{SFits}
 use Rattle.integers.specs.Tests.{eq_plain, ne_plain}
 use Rattle.plane.specs.Points.{points_of, pt_at}
-use Rattle.rectclip.specs.Bounds.{Reached}
 use Rattle.rectclip.proofs.ScanSteps.{index_before, level_is, pass_is, level_within, pass_within}
 use borrow.Author.Rules.{rules}
 use Rattle.rectclip.proofs.polygon.at_vertex.Goals as goal

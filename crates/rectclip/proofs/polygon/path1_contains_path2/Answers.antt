@@ -4,7 +4,6 @@ use lib.IntN.{ℤ, pos}
 use lib.Signed.{le_z}
 use Rattle.integers.specs.Tests.{back}
 use Rattle.plane.specs.Polygon.{path1_contains_path2}
-use borrow.Author.Rules.{rules}
 use Rattle.rectclip.proofs.polygon.path1_contains_path2.Goals as goal
 
 pub returns : goal.returns

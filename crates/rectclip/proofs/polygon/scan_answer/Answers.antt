@@ -1,20 +1,13 @@
 -- `scan_answer` meets its contract, way by way. Assumes nothing.
-use mathlib.Core.Path.{◌≡◌, refl, sym, ◌∙◌, subst}
-use mathlib.Core.Bool.{Bool, true, false, beq}
-use Prim.Native.Nat.{ℕ, ◌+◌, ◌*◌, ◌/◌, ◌<◌}
-use native.Mathlib.Omega.{arith}
-use lib.Dec.{leb}
+use mathlib.Core.Path.{◌≡◌, refl, sym, ◌∙◌}
+use mathlib.Core.Bool.{Bool, beq}
 use lib.IntN.{ℤ, pos}
 use lib.Signed.{lt_z}
-use borrow.Author.Tests.{leb-false}
 use mir.Syntax.{w64}
 use mir.Val.{SFits, to_z, of_z}
 use mir.Facts.{to_z-of_z}
-use Rattle.plane.specs.Basics.{if◌then◌else◌}
-use Rattle.rectclip.specs.Bounds.{Reached}
 use Rattle.rectclip.proofs.Segments.{zero_yes, zero_no}
 use Rattle.rectclip.proofs.ScanPasses.{ends_alike, ends_on, ends_across, ends_aside}
-use borrow.Author.Rules.{rules}
 use Rattle.rectclip.proofs.polygon.scan_answer.Goals as goal
 
 below : (b : Bool) {r d : ℤ} {t : Bool} → SFits w64 r → r ≡ d → beq (lt_z (to_z w64 (of_z w64 r)) (pos 0)) b ≡ t → beq (lt_z r (pos 0)) b ≡ t

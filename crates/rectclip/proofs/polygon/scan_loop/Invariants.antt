@@ -1,13 +1,10 @@
 -- `scan_loop` meets its contract: it counts as the definition does. Assumes nothing.
-use mathlib.Core.Path.{◌≡◌, refl, sym, ap, ◌∙◌, subst}
+use mathlib.Core.Path.{◌≡◌}
 use Prim.Native.Nat.{◌/◌}
-use borrow.Author.Rules.{rules}
-use native.Mathlib.Omega.{arith}
 use lib.ListN.{length}
 use Rattle.plane.specs.Points.{points_of}
 use Rattle.plane.specs.Polygon.{scan_loop}
-use Rattle.rectclip.specs.Scanned.{scan_of, step_of, InScan, Scanning}
-use Rattle.rectclip.proofs.ScanPasses.{loop_on, loop_stops, loop_goes_on, loop_ends}
+use Rattle.rectclip.specs.Scanned.{scan_of, InScan}
 use Rattle.rectclip.proofs.polygon.scan_loop.Given as goal
 
 abbrev pub invariant-loop-left : goal.invariant-loop-left

@@ -1,14 +1,5 @@
 -- `scan_pass` meets its contract, way by way. Assumes nothing.
-use lib.ListN.{length}
-use mathlib.Core.Path.{◌≡◌, refl}
-use mathlib.Core.Bool.{Bool, true, false, ◌||◌}
-use Prim.Native.Nat.{ℕ, ◌/◌, ◌≤◌, ◌<◌}
-use native.Mathlib.Omega.{arith}
-use lib.Dec.{eqb}
-use borrow.Author.Tests.{eqb-false}
-use Rattle.plane.specs.Basics.{if◌then◌else◌}
 use Rattle.rectclip.proofs.ScanPasses.{pass_stops, pass_skips, pass_vertex}
-use borrow.Author.Rules.{rules}
 use Rattle.rectclip.proofs.polygon.scan_pass.Goals as goal
 
 pub returns-then-at_end-s : goal.returns-then-at_end-s

@@ -1,9 +1,8 @@
 -- `skipped` meets its contract: it counts as the definition does. Assumes nothing.
 use mathlib.Core.Path.{◌≡◌, sym, ap, ◌∙◌}
 use mathlib.Core.Bool.{Bool}
-use Prim.Native.Nat.{◌+◌, ◌-◌, ◌/◌, ◌≤◌, ◌<◌}
+use Prim.Native.Nat.{◌+◌, ◌-◌, ◌/◌, ◌<◌}
 use borrow.Author.Rules.{rules}
-use borrow.Author.Tests.{not-true, not-false}
 use native.Mathlib.Omega.{arith}
 use lib.IntN.{ℤ}
 use lib.ListN.{length}
@@ -12,10 +11,8 @@ use mir.Syntax.{w64}
 use mir.Val.{SFits}
 use mir.Facts.{to_z-of_z}
 use Rattle.plane.specs.Basics.{if◌then◌else◌}
-use Rattle.plane.specs.Points.{points_of}
-use Rattle.plane.specs.Polygon.{skipped}
 use Rattle.plane.specs.declared.point.Point64.{Point64}
-use Rattle.rectclip.proofs.Scans.{skip_start, skip_turn, skip_wraps, skip_stops, skip_end}
+use Rattle.rectclip.proofs.Scans.{skip_turn, skip_wraps, skip_stops, skip_end}
 use Rattle.rectclip.proofs.polygon.skipped.Goals as goal
 
 same_height : (above : Bool) (y : ℤ) {p q : Point64} {b : Bool} → p ≡ q → b ≡ (if above then lt_z p.y y else lt_z y p.y) → b ≡ (if above then lt_z q.y y else lt_z y q.y)

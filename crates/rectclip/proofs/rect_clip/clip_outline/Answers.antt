@@ -1,9 +1,7 @@
 -- `clip_outline` meets its contract: the arena, what is left of it, and its paths.
-use native.Mathlib.Omega.{arith}
 use mathlib.Core.Path.{sym}
-use Rattle.rectclip.proofs.OutlineClips.{arranging, may_clip, clipped_is, readable}
+use Rattle.rectclip.proofs.OutlineClips.{may_clip, clipped_is, readable}
 use Rattle.rectclip.proofs.Handing.{gives_same}
-use borrow.Author.Rules.{rules}
 use Rattle.rectclip.proofs.rect_clip.clip_outline.Goals as goal
 
 pub clip_walked-clipped-requires : goal.clip_walked-clipped-requires

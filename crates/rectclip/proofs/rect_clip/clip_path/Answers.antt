@@ -1,6 +1,5 @@
 -- `clip_path` meets its contract: the walk is refused, or its outline is clipped.
 use Rattle.rectclip.proofs.ClosedEntry.{may_walk, outline_clips, walk_gives, walk_refuses}
-use borrow.Author.Rules.{rules}
 use Rattle.rectclip.proofs.rect_clip.clip_path.Goals as goal
 
 pub walk_closed-requires : goal.walk_closed-requires

@@ -1,10 +1,8 @@
 -- `draw_closed` meets its contract: nothing, the path as it came, or the path walked, in the definition's order.
 use mathlib.Core.Path.{sym, ◌∙◌, ap}
-use borrow.Author.Tests.{not-true, not-false}
 use Rattle.plane.specs.Rectangle.{intersects, contains_rect}
 use Rattle.rectclip.proofs.ClosedEntry.{drawn_empty, drawn_short, drawn_missed, drawn_copied, drawn_walked, may_clip_path}
 use Rattle.rectclip.proofs.Handing.{gives_none, gives_same}
-use borrow.Author.Rules.{rules}
 use Rattle.rectclip.proofs.rect_clip.draw_closed.Goals as goal
 
 pub returns-then-is_empty : goal.returns-then-is_empty

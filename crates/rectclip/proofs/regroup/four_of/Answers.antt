@@ -1,7 +1,6 @@
 -- `rectclip::regroup::four_of` meets its contract, one law for each way.
 use Rattle.rectclip.specs.Arenas.{arena_at}
 use Rattle.rectclip.proofs.Regrouping.{four_larger, four_smaller}
-use borrow.Author.Rules.{rules}
 use Rattle.rectclip.proofs.regroup.four_of.Goals as goal
 
 pub returns-then-cw_is_toward_larger : goal.returns-then-cw_is_toward_larger

@@ -1,7 +1,5 @@
 -- `rectclip::regroup::join` meets its contract: the definition's steps, in their order.
-use mathlib.Core.Path.{refl}
 use Rattle.rectclip.proofs.Regrouping.{rings_joined}
-use borrow.Author.Rules.{rules}
 use Rattle.rectclip.proofs.regroup.join.Goals as goal
 
 pub returns : goal.returns

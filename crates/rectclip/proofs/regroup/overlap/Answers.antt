@@ -1,6 +1,5 @@
 -- `rectclip::regroup::overlap` meets its contract: the four points are the definition's.
 use mathlib.Core.Path.{sym, ◌∙◌}
-use borrow.Author.Rules.{rules}
 use Rattle.rectclip.proofs.regroup.overlap.Goals as goal
 
 pub returns-then-is_horz : goal.returns-then-is_horz

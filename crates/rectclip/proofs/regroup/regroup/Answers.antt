@@ -1,6 +1,5 @@
 -- `rectclip::regroup::regroup` meets its contract, one law for each way.
 use Rattle.rectclip.proofs.Turns.{groups_joined, groups_split}
-use borrow.Author.Rules.{rules}
 use Rattle.rectclip.proofs.regroup.regroup.Goals as goal
 
 pub returns-then-rejoining : goal.returns-then-rejoining

@@ -1,6 +1,5 @@
 -- `rectclip::regroup::relink` meets its contract: the definition's four stores, in their order.
 use Rattle.rectclip.proofs.Regrouping.{relinked_larger, relinked_smaller}
-use borrow.Author.Rules.{rules}
 use Rattle.rectclip.proofs.regroup.relink.Goals as goal
 
 pub returns-then-cw_is_toward_larger : goal.returns-then-cw_is_toward_larger

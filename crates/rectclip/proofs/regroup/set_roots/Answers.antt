@@ -1,6 +1,5 @@
 -- `rectclip::regroup::set_roots` meets its contract: the owners are read before the results are set.
 use Rattle.rectclip.proofs.Regrouping.{roots_set}
-use borrow.Author.Rules.{rules}
 use Rattle.rectclip.proofs.regroup.set_roots.Goals as goal
 
 pub returns : goal.returns

@@ -1,7 +1,6 @@
 -- `rectclip::regroup::split` meets its contract: the definition's steps, in their order.
 use native.Mathlib.Omega.{arith}
 use Rattle.rectclip.proofs.Regrouping.{ring_split, grown_results}
-use borrow.Author.Rules.{rules}
 use Rattle.rectclip.proofs.regroup.split.Goals as goal
 
 pub set_new_owner-requires : goal.set_new_owner-requires

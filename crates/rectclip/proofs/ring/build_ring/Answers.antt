@@ -1,7 +1,5 @@
 -- `rectclip::ring::build_ring` meets its contract, one law for each way.
-use native.Mathlib.Omega.{arith}
 use Rattle.rectclip.proofs.Building.{built_none, built}
-use borrow.Author.Rules.{rules}
 use Rattle.rectclip.proofs.ring.build_ring.Goals as goal
 
 pub returns-then-n-eq0 : goal.returns-then-n-eq0

@@ -1,7 +1,5 @@
 -- `rectclip::ring::link_nodes` meets its contract: the nodes passed are linked, and the loop passes all.
-use native.Mathlib.Omega.{arith}
-use Prim.Native.Nat.{◌-◌}
-use Rattle.rectclip.proofs.Building.{Linking, after_in, linking_start, linking_again}
+use Rattle.rectclip.proofs.Building.{linking_again}
 use Rattle.rectclip.proofs.ring.link_nodes.Goals as goal
 
 pub loop-i-preserved : goal.loop-i-preserved

@@ -1,6 +1,5 @@
 -- `rectclip::ring::put_node` meets its contract: the four cells stored are the node's.
 use Rattle.rectclip.proofs.Building.{placed_node}
-use borrow.Author.Rules.{rules}
 use Rattle.rectclip.proofs.ring.put_node.Goals as goal
 
 pub returns : goal.returns

@@ -1,11 +1,7 @@
 -- `rectclip::rings::drop_collinear` meets its contract: the loop passes as often as the definition's, and leaves where it does.
-use native.Mathlib.Omega.{arith}
-use borrow.Author.Rules.{rules}
-use mathlib.Core.Path.{refl, ◌∙◌}
-use mathlib.Core.Logic.{inl, inr}
 use Prim.Native.Nat.{◌+◌, ◌*◌}
 use Rattle.rectclip.specs.Stored.{points_in}
-use Rattle.rectclip.proofs.Dropping.{Dropping, dropping_again, dropping_stop, dropping_out}
+use Rattle.rectclip.proofs.Dropping.{Dropping}
 use Rattle.rectclip.proofs.rings.drop_collinear.Given as goal
 
 abbrev pub invariant-loop-left : goal.invariant-loop-left

@@ -1,7 +1,5 @@
 -- `rectclip::rings::drop_collinear_pass` meets its contract, one law for each way.
-use Rattle.rectclip.specs.Stored.{points_in}
-use Rattle.rectclip.proofs.Dropping.{drop_kept, drop_moved, drop_last, drop_other, dropped_in}
-use borrow.Author.Rules.{rules}
+use Rattle.rectclip.proofs.Dropping.{drop_kept, drop_moved, drop_last, drop_other}
 use Rattle.rectclip.proofs.rings.drop_collinear_pass.Goals as goal
 
 pub returns-then-back-ne-NONE : goal.returns-then-back-ne-NONE

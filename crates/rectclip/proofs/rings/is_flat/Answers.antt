@@ -1,6 +1,5 @@
 -- `rectclip::rings::is_flat` meets its contract: the three points are the definition's.
 use mathlib.Core.Path.{◌∙◌}
-use borrow.Author.Rules.{rules}
 use Rattle.rectclip.proofs.rings.is_flat.Goals as goal
 
 pub point_of-requires : goal.point_of-requires

@@ -1,5 +1,4 @@
 -- `rectclip::rings::is_stub` meets its contract: the two neighbours are the definition's.
-use borrow.Author.Rules.{rules}
 use Rattle.rectclip.proofs.rings.is_stub.Goals as goal
 
 pub returns : goal.returns

@@ -1,5 +1,4 @@
 -- `rectclip::rings::point_of` meets its contract: the store's point is the node's.
-use native.Mathlib.Omega.{arith}
 use mathlib.Core.Path.{◌∙◌}
 use Rattle.rectclip.proofs.Stored.{point_in}
 use Rattle.rectclip.proofs.rings.point_of.Goals as goal

@@ -1,7 +1,5 @@
 -- `rectclip::rings::set_new_owner` meets its contract: the loop goes round as the definition does.
-use borrow.Author.Rules.{rules}
-use mathlib.Core.Path.{◌∙◌}
-use Rattle.rectclip.proofs.Owners.{Owning, owning_start, owning_again, owning_stop, owning_out, owned}
+use Rattle.rectclip.proofs.Owners.{Owning}
 use Rattle.rectclip.proofs.rings.set_new_owner.Given as goal
 
 abbrev pub invariant-loop-left : goal.invariant-loop-left

@@ -1,11 +1,6 @@
 -- `rectclip::rings::straighten` meets its contract: the loop passes as often as the definition's, and leaves where it does.
-use native.Mathlib.Omega.{arith}
-use borrow.Author.Rules.{rules}
-use mathlib.Core.Path.{refl}
 use mathlib.Core.Logic.{inl, inr}
-use Prim.Native.Nat.{◌*◌}
-use Rattle.rectclip.specs.Stored.{points_in}
-use Rattle.rectclip.proofs.Straightening.{Straightening, square, straightening_again, straightening_stop, straightening_out}
+use Rattle.rectclip.proofs.Straightening.{straightening_again, straightening_stop, straightening_out}
 use Rattle.rectclip.proofs.rings.straighten.Goals as goal
 
 pub returns-then-op2-eq-NONE : goal.returns-then-op2-eq-NONE

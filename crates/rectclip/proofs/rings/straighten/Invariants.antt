@@ -1,11 +1,7 @@
 -- `rectclip::rings::straighten` meets its contract: the loop passes as often as the definition's, and leaves where it does.
-use native.Mathlib.Omega.{arith}
-use borrow.Author.Rules.{rules}
-use mathlib.Core.Path.{refl}
-use mathlib.Core.Logic.{inl, inr}
 use Prim.Native.Nat.{◌*◌}
 use Rattle.rectclip.specs.Stored.{points_in}
-use Rattle.rectclip.proofs.Straightening.{Straightening, square, straightening_again, straightening_stop, straightening_out}
+use Rattle.rectclip.proofs.Straightening.{Straightening}
 use Rattle.rectclip.proofs.rings.straighten.Given as goal
 
 abbrev pub invariant-loop-left : goal.invariant-loop-left

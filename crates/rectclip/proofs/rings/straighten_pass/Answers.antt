@@ -1,6 +1,5 @@
 -- `rectclip::rings::straighten_pass` meets its contract, one law for each way.
 use Rattle.rectclip.proofs.Dropping.{straighten_kept, straighten_dropped}
-use borrow.Author.Rules.{rules}
 use Rattle.rectclip.proofs.rings.straighten_pass.Goals as goal
 
 pub returns-then-is_flat : goal.returns-then-is_flat

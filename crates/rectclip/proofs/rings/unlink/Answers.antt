@@ -1,6 +1,5 @@
 -- `rectclip::rings::unlink` meets its contract: the neighbours read are the definition's, and the two stores are its own.
 use Rattle.rectclip.proofs.Unlinking.{unlinked_alone, unlinked_joined}
-use borrow.Author.Rules.{rules}
 use Rattle.rectclip.proofs.rings.unlink.Goals as goal
 
 pub returns-then-next-op : goal.returns-then-next-op

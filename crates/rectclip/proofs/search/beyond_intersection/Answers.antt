@@ -1,7 +1,6 @@
 -- `beyond_intersection` meets its contract. Assumes nothing.
 use mathlib.Core.Path.{sym, ◌∙◌}
 use Rattle.rectclip.specs.Parted.{beyond_intersection}
-use borrow.Author.Rules.{rules}
 use Rattle.rectclip.proofs.search.beyond_intersection.Goals as goal
 
 pub returns-then-beyond : goal.returns-then-beyond

@@ -1,7 +1,6 @@
 -- `edge_ends` meets its contract. Assumes nothing.
 use mathlib.Core.Path.{◌∙◌}
 use Rattle.rectclip.proofs.Segments.{zero_yes, zero_no, alike, edge_first, edge_second, edge_past, edge_between}
-use borrow.Author.Rules.{rules}
 use Rattle.rectclip.proofs.search.edge_ends.Goals as goal
 
 pub returns-then-res3-eq0 : goal.returns-then-res3-eq0

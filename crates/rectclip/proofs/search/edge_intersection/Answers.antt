@@ -7,8 +7,6 @@ use Rattle.plane.specs.declared.crossing.Meeting.{Meeting}
 use Rattle.plane.specs.declared.point.Point64.{Point64}
 use Rattle.plane.specs.declared.rect.Rect64.{Rect64}
 use Rattle.plane.specs.declared.location.Location.{Location}
-use Rattle.rectclip.proofs.Searches.{edge_limited}
-use borrow.Author.Rules.{rules}
 use Rattle.rectclip.proofs.search.edge_intersection.Goals as goal
 
 -- where the segment and the edge meet, x, of the edge from a to b, which are the side's ends

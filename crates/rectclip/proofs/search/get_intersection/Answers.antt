@@ -1,13 +1,12 @@
 -- `get_intersection` meets its contract: it tries sides in the source's order, and what it finds is near. Assumes nothing.
 use mathlib.Core.Path.{◌≡◌}
-use Rattle.plane.specs.Intersection.{side_intersection, get_intersection}
+use Rattle.plane.specs.Intersection.{get_intersection}
 use Rattle.plane.specs.declared.crossing.Search.{Search}
 use Rattle.plane.specs.declared.location.Location.{Location}
 use Rattle.plane.specs.declared.point.Point64.{Point64}
 use Rattle.plane.specs.declared.rect.Rect64.{Rect64}
 use Rattle.rectclip.specs.Bounds.{SearchLimits, InReach}
 use Rattle.rectclip.proofs.Searches.{in_reach}
-use borrow.Author.Rules.{rules}
 use Rattle.rectclip.proofs.search.get_intersection.Goals as goal
 
 both : {r : Rect64} {p p2 : Point64} (loc : Location) {x : Search} → SearchLimits r p p2 → x ≡ get_intersection r p p2 loc → record { is : x ≡ get_intersection r p p2 loc; near : InReach r x }

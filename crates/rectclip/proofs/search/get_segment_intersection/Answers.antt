@@ -1,7 +1,6 @@
 -- `get_segment_intersection` meets its contract. Assumes nothing.
 use mathlib.Core.Path.{◌∙◌}
 use Rattle.rectclip.proofs.Segments.{zero_yes, zero_no, alike, collinear, start_on, end_on, one_side, both_sides}
-use borrow.Author.Rules.{rules}
 use Rattle.rectclip.proofs.search.get_segment_intersection.Goals as goal
 
 pub returns-then-res2-eq0 : goal.returns-then-res2-eq0

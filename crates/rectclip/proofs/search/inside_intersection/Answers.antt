@@ -1,6 +1,5 @@
 -- `inside_intersection` meets its contract: the first of the four edges that has a crossing answers. Assumes nothing.
 use Rattle.rectclip.proofs.Searches.{inside_left, inside_top, inside_right, inside_bottom}
-use borrow.Author.Rules.{rules}
 use Rattle.rectclip.proofs.search.inside_intersection.Goals as goal
 
 pub returns-in_default : goal.returns-in_default

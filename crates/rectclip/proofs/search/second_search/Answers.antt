@@ -1,6 +1,5 @@
 -- `second_search` meets its contract: what the search found, or what stands for it, is in reach. Assumes nothing.
 use Rattle.rectclip.proofs.Searches.{second_reached, second_is}
-use borrow.Author.Rules.{rules}
 use Rattle.rectclip.proofs.search.second_search.Goals as goal
 
 pub returns : goal.returns

@@ -4,7 +4,6 @@ use Rattle.plane.specs.Intersection.{edge_intersection}
 use Rattle.plane.specs.declared.location.Location.{Location}
 use Rattle.rectclip.specs.Parted.{beyond_intersection}
 use Rattle.rectclip.proofs.Searches.{side_own, side_low, side_up}
-use borrow.Author.Rules.{rules}
 use Rattle.rectclip.proofs.search.side_intersection.Goals as goal
 
 pub returns-in_default : goal.returns-in_default

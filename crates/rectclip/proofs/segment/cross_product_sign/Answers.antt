@@ -1,6 +1,5 @@
 -- `cross_product_sign` meets its contract: its two tests compare the products.
 use mathlib.Core.Path.{sym, ◌∙◌}
-use borrow.Author.Rules.{rules}
 use Rattle.plane.specs.Signs.{cross_product_sign}
 use Rattle.rectclip.proofs.CrossProducts.{ab_below, cd_below}
 use Rattle.rectclip.proofs.segment.cross_product_sign.Goals as goal

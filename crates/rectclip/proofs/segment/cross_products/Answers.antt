@@ -1,5 +1,4 @@
 -- `cross_products` meets its contract: every difference and product fits.
-use Rattle.integers.specs.Ring.{v0, v1, v2, v3, v4, v5, ◌⊖◌}
 use Rattle.integers.specs.Bound.{fits, mo_is}
 use Rattle.rectclip.proofs.CrossProducts.{AB, CD, numbers}
 use Rattle.rectclip.proofs.segment.cross_products.Goals as goal

@@ -1,7 +1,6 @@
 -- `is_clockwise_dir` meets its contract. Assumes nothing.
 use mathlib.Core.Path.{sym, ◌∙◌}
 use Rattle.plane.specs.Signs.{is_clockwise_dir}
-use borrow.Author.Rules.{rules}
 use Rattle.rectclip.proofs.segment.is_clockwise_dir.Goals as goal
 
 pub returns-then-are_opposites : goal.returns-then-are_opposites

@@ -1,5 +1,4 @@
 -- `is_collinear` meets its contract.
-use borrow.Author.Rules.{rules}
 use Rattle.plane.specs.Signs.{is_collinear}
 use Rattle.rectclip.proofs.CrossProducts.{ab_is_cd}
 use Rattle.rectclip.proofs.segment.is_collinear.Goals as goal

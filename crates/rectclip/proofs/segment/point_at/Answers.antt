@@ -1,5 +1,4 @@
 -- `point_at` meets its contract. Assumes nothing.
-use borrow.Author.Rules.{rules}
 use mathlib.Core.Path.{◌≡◌, ◌∙◌, sym, subst}
 use Prim.Native.Nat.{◌^◌, ◌<◌}
 use lib.IntN.{ℤ}

@@ -1,5 +1,4 @@
 -- `settled` meets its contract. Assumes nothing.
-use borrow.Author.Rules.{rules}
 use mathlib.Core.Path.{sym, ap, ◌∙◌}
 use Rattle.plane.specs.Segment.{settled_of}
 use Rattle.plane.specs.declared.crossing.Crossing.{Crossing}

@@ -1,6 +1,5 @@
 -- `rectclip::settle::is_clockwise` meets its contract.
 use mathlib.Core.Bool.{beq}
-use borrow.Author.Rules.{rules}
 use Rattle.rectclip.proofs.settle.is_clockwise.Goals as goal
 
 pub returns : goal.returns

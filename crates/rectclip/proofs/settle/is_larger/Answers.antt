@@ -1,6 +1,5 @@
 -- `rectclip::settle::is_larger` meets its contract: the two points are the definition's.
 use mathlib.Core.Path.{sym, ◌∙◌}
-use borrow.Author.Rules.{rules}
 use Rattle.rectclip.proofs.settle.is_larger.Goals as goal
 
 pub point_of-p-requires : goal.point_of-p-requires

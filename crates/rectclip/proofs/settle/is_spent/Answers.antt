@@ -1,6 +1,5 @@
 -- `rectclip::settle::is_spent` meets its contract: the two points are the definition's.
 use mathlib.Core.Path.{refl, sym, ◌∙◌}
-use borrow.Author.Rules.{rules}
 use Rattle.rectclip.proofs.settle.is_spent.Goals as goal
 
 pub returns-then-is_stub : goal.returns-then-is_stub

@@ -1,10 +1,6 @@
 -- `rectclip::settle::keep_both` meets its contract, one law for each way.
-use native.Mathlib.Omega.{arith}
-use mathlib.Core.Path.{refl}
-use Prim.Native.Nat.{◌+◌, ◌*◌}
 use Rattle.rectclip.specs.Stored.{points_in}
-use Rattle.rectclip.proofs.Settling.{looking, both_clockwise, both_other}
-use borrow.Author.Rules.{rules}
+use Rattle.rectclip.proofs.Settling.{both_clockwise, both_other}
 use Rattle.rectclip.proofs.settle.keep_both.Goals as goal
 
 pub returns-then-is_clockwise : goal.returns-then-is_clockwise

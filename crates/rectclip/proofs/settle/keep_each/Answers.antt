@@ -1,7 +1,6 @@
 -- `rectclip::settle::keep_each` meets its contract: the definition's two entries.
 use Rattle.rectclip.specs.Stored.{points_in}
-use Rattle.rectclip.proofs.Settling.{looking, looking2, entries, each_way}
-use borrow.Author.Rules.{rules}
+use Rattle.rectclip.proofs.Settling.{each_way}
 use Rattle.rectclip.proofs.settle.keep_each.Goals as goal
 
 pub returns : goal.returns

@@ -1,10 +1,6 @@
 -- `rectclip::settle::keep_one` meets its contract, one law for each way.
-use native.Mathlib.Omega.{arith}
-use mathlib.Core.Path.{refl}
 use Rattle.rectclip.specs.Stored.{points_in}
-use Rattle.rectclip.proofs.Settling.{looking, entries, one_clockwise, one_other}
-use Prim.Native.Nat.{◌+◌, ◌*◌}
-use borrow.Author.Rules.{rules}
+use Rattle.rectclip.proofs.Settling.{one_clockwise, one_other}
 use Rattle.rectclip.proofs.settle.keep_one.Goals as goal
 
 pub returns-then-clockwise : goal.returns-then-clockwise

@@ -1,6 +1,5 @@
 -- `rectclip::settle::move_to_edge` meets its contract: the definition's two steps.
 use Rattle.rectclip.proofs.Settling.{moved}
-use borrow.Author.Rules.{rules}
 use Rattle.rectclip.proofs.settle.move_to_edge.Goals as goal
 
 pub returns : goal.returns

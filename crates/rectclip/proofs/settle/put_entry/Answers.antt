@@ -1,7 +1,5 @@
 -- `rectclip::settle::put_entry` meets its contract, one law for each way.
-use native.Mathlib.Omega.{arith}
 use Rattle.rectclip.proofs.Settling.{put_clockwise, put_other}
-use borrow.Author.Rules.{rules}
 use Rattle.rectclip.proofs.settle.put_entry.Goals as goal
 
 pub returns-then-clockwise : goal.returns-then-clockwise

@@ -1,7 +1,6 @@
 -- `rectclip::settle::settle` meets its contract, one law for each way.
 use Rattle.rectclip.specs.Stored.{points_in}
-use Rattle.rectclip.proofs.Settling.{looking, looking2, settling_one, settling_two, settled_first, settled_second, settled_both, settled_each}
-use borrow.Author.Rules.{rules}
+use Rattle.rectclip.proofs.Settling.{settled_first, settled_second, settled_both, settled_each}
 use Rattle.rectclip.proofs.settle.settle.Goals as goal
 
 pub returns-then-is_spent : goal.returns-then-is_spent

@@ -1,9 +1,8 @@
 -- `rectclip::tidy::one_turn` meets its contract, one law for each way.
 use native.Mathlib.Omega.{arith}
-use mathlib.Core.Path.{refl, sym, ◌∙◌}
+use mathlib.Core.Path.{sym, ◌∙◌}
 use Prim.Native.Nat.{◌+◌, ◌*◌}
 use Rattle.rectclip.proofs.Turns.{root_in, live_root, turn_none, turn_stub, turn_end, turn_apart, turn_rejoined}
-use borrow.Author.Rules.{rules}
 use Rattle.rectclip.proofs.tidy.one_turn.Goals as goal
 
 pub returns-then-root1-eq-NONE : goal.returns-then-root1-eq-NONE

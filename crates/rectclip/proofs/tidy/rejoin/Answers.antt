@@ -1,8 +1,7 @@
 -- `rectclip::tidy::rejoin` meets its contract: rings regrouped, results set, entries settled.
 use native.Mathlib.Omega.{arith}
 use Rattle.rectclip.proofs.Spare.{results_length}
-use Rattle.rectclip.proofs.Turns.{op_within, op2_within, may_settle, rejoined}
-use borrow.Author.Rules.{rules}
+use Rattle.rectclip.proofs.Turns.{may_settle, rejoined}
 use Rattle.rectclip.proofs.tidy.rejoin.Goals as goal
 
 pub regroup-more-requires : goal.regroup-more-requires

@@ -1,8 +1,5 @@
 -- `rectclip::tidy::take_turns` meets its contract: the loop takes the definition's turns, and is left where it is.
-use native.Mathlib.Omega.{arith}
-use borrow.Author.Rules.{rules}
-use borrow.Author.Tests.{not-true, not-false}
-use Rattle.rectclip.proofs.Tidying.{Tidying, tidying_start, tidying_may, tidying_idle, tidying_stop, tidying_out, tidying_full, tidying_in, tidying_again}
+use Rattle.rectclip.proofs.Tidying.{Tidying}
 use Rattle.rectclip.proofs.tidy.take_turns.Given as goal
 
 abbrev pub invariant-loop-left : goal.invariant-loop-left

@@ -1,6 +1,5 @@
 -- `rectclip::tidy::then_tidy` meets its contract, one law for each way.
 use Rattle.rectclip.proofs.Tidying.{then_full, then_may, then_tidied}
-use borrow.Author.Rules.{rules}
 use Rattle.rectclip.proofs.tidy.then_tidy.Goals as goal
 
 pub returns-then-so_far : goal.returns-then-so_far

@@ -1,7 +1,5 @@
 -- `rectclip::tidy::tidy_all` meets its contract: the four sides in their order.
-use native.Mathlib.Omega.{arith}
-use Rattle.rectclip.proofs.Tidying.{may_go_on, all_sides}
-use borrow.Author.Rules.{rules}
+use Rattle.rectclip.proofs.Tidying.{all_sides}
 use Rattle.rectclip.proofs.tidy.tidy_all.Goals as goal
 
 pub returns : goal.returns

@@ -1,7 +1,5 @@
 -- `rectclip::tidy::tidy_edges` meets its contract, one law for each way.
-use native.Mathlib.Omega.{arith}
 use Rattle.rectclip.proofs.Tidying.{tidy_none, tidy_some}
-use borrow.Author.Rules.{rules}
 use Rattle.rectclip.proofs.tidy.tidy_edges.Goals as goal
 
 pub returns-then-lens-ccw-eq0 : goal.returns-then-lens-ccw-eq0

@@ -1,7 +1,6 @@
 -- `add` meets its contract: a new result, a point that is skipped, no room, or a point behind the last one.
 use mathlib.Core.Path.{sym, ◌∙◌}
 use Rattle.rectclip.proofs.Adding.{pos_of, first_is_new, same_skipped, other_refused, other_walked}
-use borrow.Author.Rules.{rules}
 use Rattle.rectclip.proofs.walk.add.Goals as goal
 
 pub returns-then-n-eq0 : goal.returns-then-n-eq0

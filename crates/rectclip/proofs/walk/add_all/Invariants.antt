@@ -1,10 +1,6 @@
 -- `add_all` meets its contract: what is left to add from point `i` on is what there was to add.
-use mathlib.Core.Path.{◌∙◌}
-use Rattle.rectclip.proofs.Limits.{path_limited}
-use Rattle.rectclip.proofs.Reach.{reached}
 use Prim.Native.Nat.{◌-◌}
-use borrow.Author.Rules.{rules}
-use Rattle.rectclip.proofs.Turning.{AllGoing, all_start, all_again, all_lost, all_done}
+use Rattle.rectclip.proofs.Turning.{AllGoing}
 use Rattle.rectclip.proofs.walk.add_all.Given as goal
 
 abbrev pub invariant-loop-i : goal.invariant-loop-i

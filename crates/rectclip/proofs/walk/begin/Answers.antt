@@ -1,6 +1,5 @@
 -- `begin` meets its contract: no room, or a point behind the last one that starts a result.
 use Rattle.rectclip.proofs.Adding.{new_refused, new_walked}
-use borrow.Author.Rules.{rules}
 use Rattle.rectclip.proofs.walk.begin.Goals as goal
 
 pub returns-then-store-n : goal.returns-then-store-n

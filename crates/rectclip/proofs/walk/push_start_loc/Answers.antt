@@ -1,5 +1,4 @@
 -- `push_start_loc` meets its contract: no room, or a side behind the last one.
-use borrow.Author.Rules.{rules}
 use Rattle.rectclip.proofs.Turning.{side_refused, side_walked}
 use Rattle.rectclip.proofs.walk.push_start_loc.Goals as goal
 

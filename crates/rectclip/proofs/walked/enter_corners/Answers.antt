@@ -1,7 +1,6 @@
 -- `enter_corners` meets its contract: four nodes enter, one after the other.
 use native.Mathlib.Omega.{arith}
 use Rattle.rectclip.proofs.WalkedArena.{may_enter_corner, cornered_on, four_entered}
-use borrow.Author.Rules.{rules}
 use Rattle.rectclip.proofs.walked.enter_corners.Goals as goal
 
 pub add_to_edge-s1-requires : goal.add_to_edge-s1-requires

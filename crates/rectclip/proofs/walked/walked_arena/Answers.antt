@@ -1,7 +1,5 @@
 -- `walked_arena` meets its contract: the ring, and the corners in it.
-use native.Mathlib.Omega.{arith}
 use Rattle.rectclip.proofs.WalkedArena.{ring_cornered, arranged}
-use borrow.Author.Rules.{rules}
 use Rattle.rectclip.proofs.walked.walked_arena.Goals as goal
 
 pub enter_round-requires : goal.enter_round-requires
