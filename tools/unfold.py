@@ -5,7 +5,7 @@ import glob
 import os
 import re
 
-FLOAT = 'Rattle.std.specs.Float.Ieee'
+FLOAT = 'lib.Ieee'
 IEEE = 'of_int sub mul div neg to_signed eq lt le'.split()
 SKIP = {'Lib', 'Found', 'Drawings', 'Refusals', 'Examples', 'Exported'}
 
