@@ -5,10 +5,15 @@ from pathlib import Path
 # A proof that no longer fits the code's shape says nothing of what the code answers.
 SHAPE = re.compile(r"has no field|has no `|is not in scope|the borrow checker does not|expected (?:a measure|an invariant) in ")
 # What only follows from another error.
-FOLLOWS = re.compile(r"`[^`]*` was not admitted")
+FOLLOWS = re.compile(r"`[^`]*` was not admitted|\d+ declarations? that depends? on ")
 # What is open and has values that break it.
 FALSE = re.compile(r"the facts known there allow values at which this goal is false")
-PLACE = re.compile(r"^(note: )?(?:\./)?((?:src|specs|proofs)/[^\s:]+):(\d+):\d+: (?:(error|note)(?:\[[\w-]+\])?: )?", re.M)
+# What is said of a place; the lines behind it say how the two sides compare.
+SAID = re.compile(r"^(note: )?(?:\./)?((?:src|specs|proofs)/[^\s:]+):(\d+):\d+: (error: )?(.*)$", re.M)
+
+
+def follows(what):
+    return FOLLOWS.match(what) or FOLLOWS.match(what.partition(": ")[2])
 
 
 def path_of(crate, label):
@@ -24,17 +29,15 @@ class Log:
         text = path.read_text() if path.exists() else ""
         self.there = bool(text)
         self.functions = dict(re.findall(rf"^fn {crate}::(\S+): (.*)$", text, re.M))
-        marks = list(PLACE.finditer(text))
-        ends = [m.start() for m in marks[1:]] + [len(text)]
-        said = [(m, re.split(r"\n(?:fn |note: |help: |checked )", text[m.end() : end])[0]) for m, end in zip(marks, ends)]
-        self.errors = [(m[2], what) for m, what in said if m[4] == "error"]
-        self.open = [(m[2], int(m[3]), what) for m, what in said if m[1] and not m[4] and what.startswith("it is not proved")]
+        said = [m.groups() for m in SAID.finditer(text)]
+        self.errors = [(file, what) for _, file, _, error, what in said if error]
+        self.open = [(file, int(line), what) for note, file, line, _, what in said if note and what.startswith("it is not proved")]
 
     def refuses(self, f):
         """Is a function refused for a fact: is a goal of its own false or its proof wrong, and does that proof fit its code?"""
         folder = f"proofs/{f.name.replace('::', '/')}/"
         status = self.functions.get(f.name, "proved")
-        errors = [what for where, what in self.errors if where.startswith(folder) and not FOLLOWS.match(what.partition(": ")[2]) and not FOLLOWS.match(what)]
+        errors = [what for where, what in self.errors if where.startswith(folder) and not follows(what)]
         left = [what for where, line, what in self.open if where == f.file and f.first <= line <= f.last]
         fits = not any(SHAPE.search(e) for e in [*errors, status])
         return status.startswith(("not proved", "no proof")) and (fits and bool(errors + left) or any(FALSE.search(what) for what in left))
@@ -42,4 +45,4 @@ class Log:
     def refuses_law(self, file, law):
         """Is a law refused for its own sake?"""
         own = [what for where, what in self.errors if where == file and what.startswith(f"`{law}`: ")]
-        return any(not FOLLOWS.match(e.partition(": ")[2]) and not SHAPE.search(e) for e in own)
+        return any(not follows(what) and not SHAPE.search(what) for what in own)
