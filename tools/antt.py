@@ -1,4 +1,5 @@
 """Reads antt modules: their text without comments, what their `use` lines bring, their declarations, and which of them Lib.antt reaches."""
+import functools
 import re
 from dataclasses import dataclass, field
 from pathlib import Path
@@ -38,8 +39,9 @@ class Module:
 
 
 def module_key(path):
-    """`Rattle·a·specs.specs.B` and `Rattle·a.specs.B` are both `a.specs.B`."""
-    return re.sub(r"^(?:package\.)?Rattle·(\w+)(?:·(?:specs|proofs))?\.", r"\1.", path)
+    """`Rattle.a.specs.B` of a crate of this repository is `a.specs.B`; a path of the kit is its own key."""
+    root, _, rest = path.partition(".")
+    return rest if root == "Rattle" and rest.partition(".")[0] in crates() else path
 
 
 def without_comments(text):
@@ -56,6 +58,7 @@ def without_comments(text):
     return "".join(out) + (text[at:] if depth == 0 else "")
 
 
+@functools.cache
 def crates():
     """The crates of crates.txt, in its order."""
     return re.findall(r"^[ \t]*(\w+)[ \t]*:", re.sub(r"#.*", "", Path("crates.txt").read_text()), re.M)

@@ -1,21 +1,25 @@
 #!/usr/bin/env python3
-"""edits.py [--logs]: are the must-fail edits what they claim? Run in the repository's root; reads the crates of crates.txt.
+"""edits.py [--logs | --try [CRATE..]]: are the must-fail edits what they claim? Run in the repository's root; reads the crates of crates.txt.
 
 Every public function of every library promises something (`ensures`) and has two edits or more, which are printed: those that change its own
 text or a constant that it names; those of a private function, said by a line `of: PUBLIC from PRIVATE`: the public one calls it, and is proved from its
 promise, which has an equation (functions.py says how that is decided); and those of a line `of: PUBLIC`, whose log must refuse that function itself.
 An edit of specs/ names the law that refuses it, `at: FILE LAW`. Every old text stands once in its file, and the new one has the same control words, so
 that the proofs still fit. Functions that one edit changes do not call each other, so that each is refused for its own sake.
-With --logs, after `rt must-fail` or `rt ci`: each log refuses these functions and laws for a fact (refusals.py)."""
+`rt must-fail` and `rt ci` print the first refusal of an edit alone. --try makes each edit in a copy of the repository and keeps what `rt check` says of it, in
+target/must-fail; --logs then asks that each of these logs refuses every function and law that its edit is to make wrong, for a fact (refusals.py)."""
 import glob
 import os
 import re
+import shutil
+import subprocess
 import sys
+import tempfile
 from dataclasses import dataclass, field
 
 import antt
 from functions import Promises, called, fitting, functions
-from refusals import Log
+from refusals import Log, path_of
 
 CONTROL = re.compile(r"\b(?:let|if|else|while|loop|for|return|match|break|continue)\b|;|=>|&&|\|\|")
 wrong = []
@@ -33,6 +37,7 @@ class Part:
 class Edit:
     label: str
     parts: list
+    texts: dict  # the files that it changes, as it leaves them
 
 
 def read(path):
@@ -54,7 +59,7 @@ def replaced(part, texts, crate, path, file, old, new):
 
 def parse(crate, path):
     """An edit, as `rt must-fail` reads it; its paragraphs end at empty lines."""
-    edit, texts, file, old = Edit(os.path.basename(path)[:-5], [Part()]), {}, "", ""
+    edit, file, old = Edit(os.path.basename(path)[:-5], [Part()], {}), "", ""
     for line in read(path).split("\n"):
         key, _, rest = line.partition(": ")
         part = edit.parts[-1]
@@ -70,7 +75,7 @@ def parse(crate, path):
         elif key == "old":
             old = rest
         elif line.startswith("new:"):
-            replaced(part, texts, crate, path, file, old, rest)
+            replaced(part, edit.texts, crate, path, file, old, rest)
     return edit
 
 
@@ -150,10 +155,47 @@ def check_edit(crate, edit, all_functions, promises, logs):
     return counted
 
 
+def files(crate):
+    return sorted(glob.glob(f"crates/{crate}/must-fail/*.edit"))
+
+
+def checked(folder):
+    """What `rt check` says in a crate's folder, and whether it proves the crate."""
+    done = subprocess.run(["rt", "check"], cwd=folder, stdout=subprocess.PIPE, stderr=subprocess.STDOUT, text=True)
+    return done.stdout, done.returncode == 0
+
+
+def try_edits(crate, room):
+    """Makes each edit of a crate in a copy of the repository, and keeps what is said of it."""
+    folder = f"{room}/crates/{crate}"
+    said, proved = checked(folder)
+    if not proved:
+        sys.exit(f"{said}{crate}: it is not proved as it stands")
+    for path in files(crate):
+        edit = parse(crate, path)
+        for file, text in edit.texts.items():
+            with open(f"{folder}/{file}", "w") as f:
+                f.write(text)
+        log = path_of(crate, edit.label)
+        log.parent.mkdir(parents=True, exist_ok=True)
+        log.write_text(checked(folder)[0])
+        for file in edit.texts:
+            shutil.copy(f"crates/{crate}/{file}", f"{folder}/{file}")
+
+
+def try_all(chosen):
+    with tempfile.TemporaryDirectory() as room:
+        for file in filter(os.path.exists, ("crates.txt", "HANDLES")):
+            shutil.copy(file, room)
+        shutil.copytree("crates", f"{room}/crates", ignore=shutil.ignore_patterns("out", "must-fail"))
+        for crate in (c for c in antt.crates() if files(c) and c in (chosen or antt.crates())):
+            try_edits(crate, room)
+
+
 def check(crate, promises, logs):
     all_functions = functions(crate) if os.path.exists(f"crates/{crate}/src/lib.rt") else []
     edits_of = {f.name: [] for f in all_functions}
-    for path in sorted(glob.glob(f"crates/{crate}/must-fail/*.edit")):
+    for path in files(crate):
         edit = parse(crate, path)
         for name in {f.name for f in check_edit(crate, edit, all_functions, promises, logs)}:
             edits_of[name].append(edit.label)
@@ -166,11 +208,15 @@ def check(crate, promises, logs):
 
 
 def main():
-    if set(sys.argv[1:]) - {"--logs"}:
-        sys.exit("usage: edits.py [--logs]")
+    mode, chosen = "".join(sys.argv[1:2]), sys.argv[2:]
+    if mode not in ("", "--logs", "--try") or chosen and (mode != "--try" or set(chosen) - set(antt.crates())):
+        sys.exit("usage: edits.py [--logs | --try [CRATE..]]")
+    if mode == "--try":
+        try_all(chosen)
+        return
     promises = Promises()
     for crate in antt.crates():
-        check(crate, promises, "--logs" in sys.argv)
+        check(crate, promises, mode == "--logs")
     wrong.extend(f"{folder}: `rt ci` tries the edits of must-fail alone" for folder in glob.glob("crates/*/must-fail?*"))
     for line in dict.fromkeys(wrong):
         print(line, file=sys.stderr)

@@ -19,11 +19,13 @@ class Function:
 
     def contract(self):
         """The text before the body."""
-        return re.split(r"\n *\{|\{\n", self.text)[0]
+        return re.split(r"\n *\{\n|\) (?:-> [^\n]*)?\{\n", self.text)[0]
 
     def facts(self):
-        """What it ensures of its result and its lists, each as antt."""
-        return re.findall(r"\bensures (?:[\w-]+ )?\{ *(?:λ [^.]*\. *)?⌜ *(.*?) *⌝", self.contract(), re.S)
+        """What it ensures of its result and its lists, each as antt: its clauses `ensures { .. }` and `ensures NAME { .. }`."""
+        text = self.contract()
+        starts = (match.end() - 1 for match in re.finditer(r"\bensures (?:\w+ )?\{", text))
+        return [text[at + 1 : at + closing(text[at:])].strip() for at in starts]
 
 
 def source(path):
@@ -114,10 +116,10 @@ def flat(text):
 
 
 def closing(text):
-    """Where the parenthesis that a text begins with is closed."""
+    """Where the parenthesis or brace that a text begins with is closed."""
     depth = 0
     for at, sign in enumerate(text):
-        depth += (sign == "(") - (sign == ")")
+        depth += (sign in "({") - (sign in ")}")
         if depth == 0:
             return at
     return -1

@@ -35,10 +35,10 @@ def defined(module):
 
 def origins(module, word):
     """The modules that a word can come from, each with its name there: an operator stands between its arguments, a field behind a dot."""
-    names = [word, word.partition(".")[0], *(n for n in module.names if "_" in n and word in n.split("_"))]
+    names = [word, word.partition(".")[0], *(n for n in module.names if "◌" in n and word in n.split("◌"))]
     found = [module.names[n] for n in names if n in module.names] + [(module.key, word)]
     owner = word.rpartition(".")[0]
-    return found + ([module.resolved(word)] if owner in module.aliases or owner.startswith("Rattle·") else [])
+    return found + ([module.resolved(word)] if owner in module.aliases or owner.startswith("Rattle.") else [])
 
 
 def file_of(key):

@@ -17,21 +17,15 @@ import unfold
 
 # where Cases.antt finds the types and the entries, and how a table finds Cases.antt
 CASE_USES = """\
-use mathlib.Core.Bool.{Bool, true, false}
-use mathlib.Core.List.{List, [], _∷_}
-use Prim.Native.Nat.{ℕ, _+_, _*_}
-use lib.ListN.{length, replicate}
-use lib.IntN.{ℤ, pos, negℤ}
-use Rattle·plane.specs.declared.rect.Rect64.{Rect64}
-use Rattle·plane.specs.Basics.{if_then_else_}
-use Rattle·plane.specs.Points.{points-of, coordinates-of}
-use Rattle·reference.specs.Entry.{Lent, After, Outcome, refused, drawn, clip-closed, clip-open}
-use Rattle·reference.specs.Walk.{walked-outline}
+use Rattle.std.specs.Prelude.{Bool, true, false, List, [], ◌∷◌, ℕ, ◌+◌, ◌*◌, length, replicate, ℤ, pos, neg_ℤ}
+use Rattle.plane.specs.declared.rect.Rect64.{Rect64}
+use Rattle.plane.specs.Basics.{if◌then◌else◌}
+use Rattle.plane.specs.Points.{points_of, coordinates_of}
+use Rattle.reference.specs.Entry.{Lent, After, Outcome, refused, drawn, clip_closed, clip_open}
+use Rattle.reference.specs.Walk.{walked_outline}
 """
 TABLE_USES = """\
-use mathlib.Core.Path.{_≡_, refl}
-use mathlib.Core.List.{List, [], _∷_, map}
-use lib.IntN.{pos}
+use Rattle.std.specs.Prelude.{◌≡◌, refl, List, [], ◌∷◌, map, pos}
 """
 CASE_NAMES = ["Case", "C", "U", "L", "R", "minus", "returned", "refusal", "shown"]
 
@@ -40,7 +34,7 @@ CASES = """\
 -- Made by tools/tables.py.
 %s
 abbrev pub minus : ℕ → ℤ
-minus n = negℤ (pos n)
+minus n = neg_ℤ (pos n)
 
 abbrev pub R : ℤ → ℤ → ℤ → ℤ → Rect64
 R l t r b = record { left = l; top = t; right = r; bottom = b }
@@ -80,19 +74,19 @@ refusal n o = (refused n, pos 7 ∷ pos 7 ∷ [], 7 ∷ [], o)
 -- lists to fill as long as those that are expected, each entry 7
 abbrev pub lent : Case → Lent
 lent c = record {
-  coordinates = replicate (length (c .expected .1)) (pos 7);
-  lengths = replicate (length (c .expected .2)) 7;
-  store = replicate (2 * c .W) (pos 0);
-  work = replicate (16 * (c .W + c .A + 1)) 0;
+  coordinates = replicate (length c.expected.1) (pos 7);
+  lengths = replicate (length c.expected.2) 7;
+  store = replicate (2 * c.W) (pos 0);
+  work = replicate (16 * (c.W + c.A + 1)) 0;
 }
 
 abbrev pub outline : Case → List ℤ
-outline c = if c .walked then coordinates-of (walked-outline (c .rect) (points-of (c .coords))) else []
+outline c = if c.walked then coordinates_of (walked_outline c.rect (points_of c.coords)) else []
 
 abbrev pub shown : Case → Shown
 shown c =
-    let after : After = if c .closed then clip-closed (c .A) (c .rect) (c .coords) (lent c) else clip-open (c .rect) (c .coords) (lent c) in
-    (after .answer, after .lists .coordinates, after .lists .lengths, outline c)
+    let after : After = if c.closed then clip_closed c.A c.rect c.coords (lent c) else clip_open c.rect c.coords (lent c) in
+    (after.answer, after.lists.coordinates, after.lists.lengths, outline c)
 """
 
 
@@ -141,12 +135,12 @@ def table_file(groups, uses, names):
     for number, rows in enumerate(groups, 1):
         cases = "".join(case(row) for row in rows)
         parts.append(f"abbrev table{number} : List Case\ntable{number} =\n{cases}    []\n")
-        parts.append(f"drawings{number} : map shown table{number} ≡ map (λ c. c .expected) table{number}\n"
+        parts.append(f"drawings{number} : map shown table{number} ≡ map (λ c. c.expected) table{number}\n"
                      f"unfolding {' '.join(names)}\ndrawings{number} = refl\n")
-    used = set(re.findall(r"[\w-]+", "".join(parts)))
+    used = set(re.findall(r"\w+", "".join(parts)))
     head = (f"-- Drawings with the Rust's answers: what the entries answer and fill, and the walked outline.\n"
             f"-- Made by tools/tables.py from rows of compare's `drawings`. Assumes nothing.\n{TABLE_USES}"
-            f"use Rattle·drawings·specs.specs.Cases.{{{', '.join(n for n in CASE_NAMES if n in used)}}}\n")
+            f"use Rattle.drawings.specs.Cases.{{{', '.join(n for n in CASE_NAMES if n in used)}}}\n")
     return "\n".join([head + "\n".join(uses) + "\n", *parts])
 
 
@@ -162,7 +156,7 @@ def main():
     reader.add_argument("--theorems", type=int, default=4, help="theorems a file")
     given = reader.parse_args()
     rows = [line for line in sys.stdin.read().split("\n") if line and not line.startswith("#")]
-    uses, names = unfold.lists("drawings")
+    uses, names = unfold.lists()
     (given.out / "Cases.antt").write_text(CASES % CASE_USES)
     print("pub mod Cases")
     for number, groups in enumerate(split(split(rows, given.each), given.theorems), 1):
