@@ -9,7 +9,7 @@ ghost use Rattle.harness.specs.Values.{presence_value, uncounted_value, counted,
 use entry::answer::{Answer, Presence};
 use entry::present::present;
 use plane::rect::Rect64;
-use rectclip::lines::Rect_clip_lines64;
+use rectclip::lines::RectClipLines64;
 use rectclip::rect_clip::RectClip64;
 
 // 0 no, 1 yes, 100 and the number for a refusal.
