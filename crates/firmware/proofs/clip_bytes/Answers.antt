@@ -1,7 +1,6 @@
 -- `firmware::clip_bytes` meets its contract: what is sent is the definition's.
 use Rattle.std.proofs.Common.{◌≡◌, sym, ap, ◌∙◌, ℕ, ℤ, pos, ◌/◌, length, take, replicate}
 use lib.ListN.{length-replicate}
-use Rattle.reference.specs.Exported.{read_words}
 use Rattle.firmware.specs.Sending.{path_refusal}
 use Rattle.firmware.proofs.Exporting.{refused_early, part_read, may_send, all_exported, all_returned}
 use Rattle.firmware.proofs.clip_bytes.Goals as goal

@@ -1,11 +1,8 @@
 -- `program::answers::answer_path` meets its contract.
-use Rattle.std.proofs.Common.{◌≡◌, rules}
+use Rattle.std.proofs.Common.{rules}
 use mir.Syntax.{w64}
 use mir.Val.{SFits}
 use mir.Facts.{to_z-of_z}
-use Rattle.handheld.specs.Drawn.{clipped}
-use Rattle.program.specs.Printed.{Gives}
-use Rattle.program.specs.Answered.{path_answer}
 use Rattle.program.proofs.Lines.{prints_as}
 use Rattle.program.proofs.Given.{refused_line, path_refused, path_printable, path_drawn}
 use Rattle.program.proofs.Exact.{path_exact}
