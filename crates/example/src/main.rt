@@ -1,12 +1,14 @@
 // One shelf outline clipped to an owner's rectangle; prints the returned path.
+#![tactic(auto)]
+
 use entry::answer::Answer;
 use entry::part::filled;
-use libc::STDOUT_FILENO;
 use plane::rect::Rect64;
 use rectclip::rect_clip::RectClip64;
+use std::io;
 use text::writing::{write_path, write_refusal};
 
-fn main() {
+fn main(rt: HostRuntime) -> io::Result<()> {
     let path = [50i64, 50, 150, 50, 150, 80, 50, 80];
     let mut store = [0i64; 512];
     let mut work = [0u32; 8208];
@@ -26,11 +28,11 @@ fn main() {
         Answer::Drawn(counts) => {
             let part = filled(&mut coordinates, counts.points as usize);
             let n = write_path(true, 1, part, &mut line);
-            io::write_all(STDOUT_FILENO, &line[..n]);
+            rt.write_all(&line[..n])
         }
         Answer::Refused(why) => {
             let n = write_refusal(1, why.number() as i64, &mut line);
-            io::write_all(STDOUT_FILENO, &line[..n]);
+            rt.write_all(&line[..n])
         }
     }
 }

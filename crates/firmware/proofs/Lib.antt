@@ -1,6 +1,5 @@
 -- Laws that the firmware's proofs cite.
 pub mod Bytes
-pub mod Signs
 pub mod Sending
 pub mod ReadBack
 pub mod Returned

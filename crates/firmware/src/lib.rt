@@ -1,4 +1,6 @@
 // The clippers for the firmware in C: a path, and what it gives, as little-endian bytes, four to a number.
+#![tactic(auto)]
+
 ghost use Rattle.std.specs.Prelude.{◌≡◌, true, false};
 ghost use Rattle.plane.specs.Rectangle.{rect};
 ghost use Rattle.reference.specs.Entry.{drawn};

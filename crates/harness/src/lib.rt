@@ -1,4 +1,6 @@
 // The clippers as a static library over plain numbers and lists of any length: for measuring and comparing only.
+#![tactic(auto)]
+
 ghost use Rattle.std.specs.Prelude.{◌≡◌, true, false, ◌≤◌, length};
 ghost use Rattle.plane.specs.Rectangle.{rect};
 ghost use Rattle.reference.specs.Entry.{clip_path, is_present};

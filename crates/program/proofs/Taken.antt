@@ -1,5 +1,5 @@
 -- A line is what the buffer holds of it and, a buffer at a time, what is read behind that; and what holds of every line. Assumes nothing.
-use mathlib.Core.Path.{◌≡◌, refl, sym, ◌∙◌, ap}
+use mathlib.Core.Path.{◌≡◌, refl, sym, ◌∙◌, ap, subst}
 use mathlib.Core.Bool.{Bool, true, false}
 use mathlib.Core.Logic.{inl, inr}
 use mathlib.Core.List.Memᴰ
@@ -14,6 +14,8 @@ use Rattle.text.proofs.Stores.{sets_append, sets_out, sets_lead}
 use Rattle.program.specs.declared.input.Cursor.{Cursor}
 use Rattle.program.specs.declared.input.Held.{Held}
 use Rattle.program.specs.declared.input.Taken.{Taken}
+use Rattle.std.specs.Prelude.{Option, None, Some}
+use Rattle.std.specs.Io.KnownBytes.{Consumes}
 use Rattle.program.specs.Taken.{before_feed, has_feed, has_bytes, at_hand, passed, TakesHeld, TakesLine, IsLine}
 use Rattle.program.proofs.Feeds.{cursor, drop_past, feed_first, continued, whole_line, none_behind, hand_left}
 
@@ -30,14 +32,28 @@ begun_by at (b ∷ bs) = go (eqb b 10) refl
     go true e = rw e (lt-ltb at (at + 1) (omega arith))
     go false e = rw e (lt-ltb at _ (omega arith))
 
-pub line_first : {buffer : List ℕ} {start : Cursor} {line : List ℕ} {r : Held} {after : List ℕ} → TakesHeld buffer start line 0 r after
-    → TakesLine buffer start line (taken r (ltb start.at r.cursor.at)) buffer after
-line_first {buffer} {start} {line} {r} {after} t =
+-- ---- what a reader gives
+-- nothing, and so nothing is gone
+gives_none : (ahead : Option (List ℕ)) → Consumes ahead ahead []
+gives_none None = tt
+gives_none (Some xs) = refl
+
+-- a part, and then a part
+gives_more : (ahead₀ ahead ahead' : Option (List ℕ)) (xs ys : List ℕ) → Consumes ahead₀ ahead xs → Consumes ahead ahead' ys → Consumes ahead₀ ahead' (xs ++ ys)
+gives_more None ahead ahead' xs ys p q = tt
+gives_more (Some us) None ahead' xs ys p q = absurd p
+gives_more (Some us) (Some vs) None xs ys p q = absurd q
+gives_more (Some us) (Some vs) (Some ws) xs ys p q = p ∙ ap (λ (l : List ℕ). xs ++ l) q ∙ sym (append_assoc xs ys ws)
+
+pub line_first : {ahead : Option (List ℕ)} {buffer : List ℕ} {start : Cursor} {line : List ℕ} {r : Held} {after : List ℕ} → TakesHeld buffer start line 0 r after
+    → TakesLine ahead ahead buffer start line (taken r (ltb start.at r.cursor.at)) buffer after
+line_first {ahead} {buffer} {start} {line} {r} {after} t =
     let bytes = at_hand buffer start in
     let all : bytes ++ [] ≡ bytes = append-nil bytes in
     let many : 0 + min (length (before_feed bytes)) (length line - 0) ≡ min (length (before_feed bytes)) (length line) = omega arith in
     record {
       came = [];
+      given = gives_none ahead;
       count = rw all (ap (λ (h : Held). h.count) t.is ∙ many);
       line_after = rw all t.line_after;
       begun = rw all (ap (λ (h : Held). ltb start.at h.cursor.at) t.is ∙ begun_by start.at bytes);
@@ -66,11 +82,11 @@ has_some [] [] h = absurd (omega arith)
 has_some [] (y ∷ ys) h = refl
 has_some (x ∷ xs) ys h = refl
 
-pub line_long : {buffer₀ : List ℕ} {start : Cursor} {line₀ : List ℕ} {r : Taken} {buffer line : List ℕ} → TakesLine buffer₀ start line₀ r buffer line → length line ≡ length line₀
-line_long {buffer₀} {start} {line₀} t = ap length t.line_after ∙ length-sets line₀ 0 (before_feed (at_hand buffer₀ start ++ t.came))
+pub line_long : {ahead₀ ahead : Option (List ℕ)} {buffer₀ : List ℕ} {start : Cursor} {line₀ : List ℕ} {r : Taken} {buffer line : List ℕ} → TakesLine ahead₀ ahead buffer₀ start line₀ r buffer line → length line ≡ length line₀
+line_long {buffer₀ = buffer₀} {start = start} {line₀ = line₀} t = ap length t.line_after ∙ length-sets line₀ 0 (before_feed (at_hand buffer₀ start ++ t.came))
 
 -- behind a line that has not ended
-module _ {buffer₀ : List ℕ} {start : Cursor} {line₀ : List ℕ} {so_far : Taken} {buffer line : List ℕ} (to : TakesLine buffer₀ start line₀ so_far buffer line) (e : so_far.ended ≡ false) where
+module _ {ahead₀ ahead : Option (List ℕ)} {buffer₀ : List ℕ} {start : Cursor} {line₀ : List ℕ} {so_far : Taken} {buffer line : List ℕ} (to : TakesLine ahead₀ ahead buffer₀ start line₀ so_far buffer line) (e : so_far.ended ≡ false) where
   abbrev all : List ℕ
   all = at_hand buffer₀ start ++ to.came
 
@@ -81,10 +97,12 @@ module _ {buffer₀ : List ℕ} {start : Cursor} {line₀ : List ℕ} {so_far : 
   never : {A : Type 0} → has_feed (at_hand buffer₀ start) ≡ true → A
   never h = absurd (let z : true ≡ false = sym (feed_first (at_hand buffer₀ start) to.came h) ∙ was in let y : ◌≡◌ {A = ℕ} 0 1 = cc in omega arith)
 
-  pub line_end : (buffer' : List ℕ) → TakesLine buffer₀ start line₀ (record { cursor = cursor 0 0; count = so_far.count; begun = so_far.begun; ended = false }) buffer' line
-  line_end buffer' =
+  pub line_end : {ahead' : Option (List ℕ)} {n : ℕ} {buffer' : List ℕ} → n ≡ 0 → Consumes ahead ahead' (take n buffer')
+      → TakesLine ahead₀ ahead' buffer₀ start line₀ (record { cursor = cursor 0 0; count = so_far.count; begun = so_far.begun; ended = false }) buffer' line
+  line_end {ahead'} {n} {buffer'} z g =
       record {
         came = to.came;
+        given = subst (λ (l : List ℕ). Consumes ahead₀ ahead' l) (append-nil to.came) (gives_more ahead₀ ahead ahead' to.came [] to.given (subst (λ (k : ℕ). Consumes ahead ahead' (take k buffer')) z g));
         count = to.count;
         line_after = to.line_after;
         begun = to.begun;
@@ -93,9 +111,9 @@ module _ {buffer₀ : List ℕ} {start : Cursor} {line₀ : List ℕ} {so_far : 
         unread = λ h. never h;
       }
 
-  pub line_again : {buffer' : List ℕ} {n : ℕ} {r : Held} {line' : List ℕ} → 0 < n → n ≤ length buffer' → TakesHeld buffer' (cursor 0 n) line so_far.count r line'
-      → TakesLine buffer₀ start line₀ (taken r true) buffer' line'
-  line_again {buffer'} {n} {r} {line'} h f t =
+  pub line_again : {ahead' : Option (List ℕ)} {buffer' : List ℕ} {n : ℕ} {r : Held} {line' : List ℕ} → 0 < n → n ≤ length buffer' → Consumes ahead ahead' (take n buffer') → TakesHeld buffer' (cursor 0 n) line so_far.count r line'
+      → TakesLine ahead₀ ahead' buffer₀ start line₀ (taken r true) buffer' line'
+  line_again {ahead'} {buffer'} {n} {r} {line'} h f g t =
       let bytes = at_hand buffer' (cursor 0 n) in
       let some : 0 < length bytes = simp length-take (omega arith) in
       let with : at_hand buffer₀ start ++ (to.came ++ bytes) ≡ all ++ bytes = sym (append_assoc (at_hand buffer₀ start) to.came bytes) in
@@ -106,6 +124,7 @@ module _ {buffer₀ : List ℕ} {start : Cursor} {line₀ : List ℕ} {so_far : 
       let many : so_far.count + min (length (before_feed bytes)) (length line - so_far.count) ≡ min (length (before_feed (all ++ bytes))) (length line₀) = rw (more.line, length-append all (before_feed bytes)) (omega arith) in
       record {
         came = to.came ++ bytes;
+        given = gives_more ahead₀ ahead ahead' to.came bytes to.given (let z : n ≡ n - 0 = omega arith in subst (λ (k : ℕ). Consumes ahead ahead' (take k buffer')) z g);
         count = rw with (ap (λ (h : Held). h.count) t.is ∙ many);
         line_after = rw with (t.line_after ∙ (λ i. sets (stored i) (had i) (before_feed bytes)) ∙ sets_behind all (before_feed bytes) line₀ ∙ ap (sets line₀ 0) (sym more.line));
         begun = rw with (sym (has_some all bytes some));
@@ -117,12 +136,12 @@ module _ {buffer₀ : List ℕ} {start : Cursor} {line₀ : List ℕ} {so_far : 
 -- ---- every line
 -- no byte before the first line feed is one
 before_none : (xs : List ℕ) (n b : ℕ) → Memᴰ b (take n (before_feed xs)) → b ≡ 10 → ⊥
-before_none [] n b m e = Memᴰ.not_nil (rw take-nil at m)
+before_none [] n b m e = Memᴰ.not-nil (rw take-nil at m)
 before_none (x ∷ xs) n b m e = go (eqb x 10) refl n m (λ k. before_none xs k b)
   where
     go : (t : Bool) → eqb x 10 ≡ t → (n : ℕ) → Memᴰ b (take n (before_feed (x ∷ xs))) → ((k : ℕ) → Memᴰ b (take k (before_feed xs)) → b ≡ 10 → ⊥) → ⊥
-    go true q n m rest = Memᴰ.not_nil (rw take-nil at (rw q at m))
-    go false q zero m rest = Memᴰ.not_nil m
+    go true q n m rest = Memᴰ.not-nil (rw take-nil at (rw q at m))
+    go false q zero m rest = Memᴰ.not-nil m
     go false q (suc n) m rest = elim (Memᴰ.cases_cons (rw q at m)) [ inl s ↦ eqb-false x 10 q (sym s ∙ e) | inr i ↦ rest n i e ]
 
 no_bytes : (xs : List ℕ) → has_bytes xs ≡ false → length (before_feed xs) ≡ 0
@@ -137,8 +156,8 @@ drop_cut m l {n} e = go (ltb (length l) m) refl
     go true q = let h = ltb-true (length l) m q in drop_past l m (omega arith) ∙ sym (drop_past l n (omega arith))
     go false q = let h = ltb-false (length l) m q in let z : m ≡ n = omega arith in ap (λ (k : ℕ). drop k l) z
 
-pub is_line : {buffer : List ℕ} {start : Cursor} {line : List ℕ} {r : Taken} {buffer' line' : List ℕ} → TakesLine buffer start line r buffer' line' → IsLine line r line'
-is_line {buffer} {start} {line} {r} {buffer'} {line'} t =
+pub is_line : {ahead₀ ahead : Option (List ℕ)} {buffer : List ℕ} {start : Cursor} {line : List ℕ} {r : Taken} {buffer' line' : List ℕ} → TakesLine ahead₀ ahead buffer start line r buffer' line' → IsLine line r line'
+is_line {buffer = buffer} {start = start} {line = line} {r = r} {buffer' = buffer'} {line' = line'} t =
     let bytes = before_feed (at_hand buffer start ++ t.came) in
     let parts : line' ≡ take (length line) bytes ++ drop (length bytes) line = t.line_after ∙ sets_lead bytes line in
     let long : length line' ≡ length line = ap length t.line_after ∙ length-sets line 0 bytes in

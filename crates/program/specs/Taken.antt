@@ -1,8 +1,9 @@
 -- A line of the input, of document 01's sentence 'Lines end with a line feed, which the last may lack': what `take_held` takes of the bytes that
 -- the buffer holds, and what `take_line` takes of those and of the bytes that are read behind them.
-use Rattle.std.specs.Prelude.{◌≡◌, Bool, true, false, ℕ, ◌+◌, ◌-◌, ◌≤◌, min, length, take, drop, eqb}
+use Rattle.std.specs.Prelude.{◌≡◌, Bool, true, false, ℕ, ◌+◌, ◌-◌, ◌≤◌, min, length, take, drop, eqb, Option}
 use mathlib.Core.List.{List, [], ◌∷◌, ◌++◌, Memᴰ}
 use Rattle.std.proofs.lemmas.List.Edits.{sets}
+use Rattle.std.specs.Io.KnownBytes.{Consumes}
 use Rattle.plane.specs.Basics.{if◌then◌else◌}
 use Rattle.program.specs.declared.input.Cursor.{Cursor}
 use Rattle.program.specs.declared.input.Held.{Held}
@@ -56,10 +57,12 @@ pub record Unread (buffer : List ℕ) (start : Cursor) (came : List ℕ) (r : Ta
   pub cursor : r.cursor ≡ (held (at_hand buffer start) start 0 0).cursor
   pub buffer_after : buffer' ≡ buffer
 
--- by the bytes that came, where any were read: which they are the rules leave open, and all else follows from them and the bytes at hand.
+-- by the bytes that came, where any were read: the next ones of the reader, where it says which it has (`ahead`, and `ahead'` afterwards). Of standard
+-- input the rules leave open which they are, and all else follows from them and the bytes at hand.
 -- A line that is too long for its list is cut; a line has begun where there is a byte; and what is left at hand stands behind the line feed
-pub record TakesLine (buffer : List ℕ) (start : Cursor) (line : List ℕ) (r : Taken) (buffer' line' : List ℕ) : Type 0 where
+pub record TakesLine (ahead ahead' : Option (List ℕ)) (buffer : List ℕ) (start : Cursor) (line : List ℕ) (r : Taken) (buffer' line' : List ℕ) : Type 0 where
   pub came : List ℕ
+  pub given : Consumes ahead ahead' came
   pub count : r.count ≡ min (length (before_feed (at_hand buffer start ++ came))) (length line)
   pub line_after : line' ≡ sets line 0 (before_feed (at_hand buffer start ++ came))
   pub begun : r.begun ≡ has_bytes (at_hand buffer start ++ came)

@@ -1,8 +1,9 @@
 // The input, a line at a time.
-ghost use Rattle.std.specs.Prelude.{◌≡◌, ◌≤◌, min, length};
+ghost use Rattle.std.specs.Prelude.{◌≡◌, ◌≤◌, min, length, take};
+ghost use Rattle.std.specs.Io.KnownBytes.{Consumes};
 ghost use Rattle.program.specs.Taken.{TakesHeld, TakesLine, IsLine};
 
-use libc::STDIN_FILENO;
+use std::io::Read;
 
 // Where the next byte of the buffer stands, and how many bytes it holds.
 #[derive(Clone, Copy)]
@@ -68,18 +69,26 @@ pub fn take_held(buffer: &[u8], cursor: Cursor, line: &mut [u8], from: usize) ->
 }
 
 // Reads what comes next to the buffer's front; answers how many bytes came. A read that fails counts as the input's end.
-fn read_more(buffer: &mut [u8; 65536]) -> usize
-    ensures { result ≤ length buffer.new }
+fn read_more<R: Read>(input: &mut R, buffer: &mut [u8; 65536]) -> usize
+    ensures bound { result ≤ length buffer.new }
+    ensures bytes { Consumes (R.remaining input.old) (R.remaining input.new) (take result buffer.new) }
 {
-    let got = libc::read(STDIN_FILENO, buffer);
-    io::count(got, buffer)
+    match input.read(buffer) {
+        Ok(n) => n,
+        Err(_) => 0,
+    }
 }
 
 // The next line, line feed left out. Of a line that is too long, as much is kept as `line` can hold.
 // Which bytes a read brings is left open; the line, the cursor and the buffer are promised by the bytes at hand and those that came.
 // A proved loop has to end, and nothing says that a line does: the reads are counted down from a number that no run uses up.
-pub fn take_line(buffer: &mut [u8; 65536], start: Cursor, line: &mut [u8]) -> Taken
-    ensures taken { TakesLine buffer.old start line.old result buffer.new line.new }
+pub fn take_line<R: Read>(
+    input: &mut R,
+    buffer: &mut [u8; 65536],
+    start: Cursor,
+    line: &mut [u8],
+) -> Taken
+    ensures taken { TakesLine (R.remaining input.old) (R.remaining input.new) buffer.old start line.old result buffer.new line.new }
     ensures line { IsLine line.old result line.new }
 {
     let first = take_held(buffer, start, line, 0);
@@ -95,7 +104,7 @@ pub fn take_line(buffer: &mut [u8; 65536], start: Cursor, line: &mut [u8]) -> Ta
         if taken.ended {
             return taken;
         }
-        let n = read_more(buffer);
+        let n = read_more(input, buffer);
         if n == 0 {
             return Taken {
                 cursor: Cursor { at: 0, end: 0 },

@@ -1,17 +1,26 @@
 // The replay program: each stored drawing is answered again, and the answer compared with the stored one. It prints the line of
 // each drawing whose answer differs, then how many drawings there are and how many answers are as stored. A read that fails
-// counts as the input's end, and a write that fails ends it.
+// counts as the input's end, and a write that fails ends it, with that write's error.
+#![tactic(auto)]
+
+ghost use Rattle.std.specs.Prelude.{IfOk};
 ghost use Rattle.replay.specs.Fits.{Fits};
 
 mod replay;
 
-use libc::STDOUT_FILENO;
 use program::input::{Cursor, take_line};
 use replay::Replay;
+use std::io;
+use std::io::{Print, Read};
 
 // All lines. Their numbers count up to one that no run comes to.
-fn replay_lines(answer: &mut [u8; 12288], stored: &mut [u8; 12288]) -> Replay
-    ensures { Fits result }
+fn replay_lines<P: Print, R: Read>(
+    rt: &P,
+    input: &mut R,
+    answer: &mut [u8; 12288],
+    stored: &mut [u8; 12288],
+) -> io::Result<Replay>
+    ensures { IfOk result (λ state. Fits state) }
 {
     let mut buffer = [0u8; 65536];
     let mut line = [0u8; 12289];
@@ -19,44 +28,30 @@ fn replay_lines(answer: &mut [u8; 12288], stored: &mut [u8; 12288]) -> Replay
     let mut state = Replay::new();
     let mut number: u64 = 1;
     while number < 9223372036854775808 {
-        let taken = take_line(&mut buffer, cursor, &mut line);
+        let taken = take_line(input, &mut buffer, cursor, &mut line);
         if !taken.begun {
-            return state;
+            return Ok(state);
         }
         let k = taken.count;
-        state = state.next(number, &line[..k], answer, stored);
-        if state.stopped | !taken.ended {
-            return state;
+        state = state.next(rt, number, &line[..k], answer, stored)?;
+        if !taken.ended {
+            return Ok(state);
         }
         cursor = taken.cursor;
         number += 1;
     }
-    state
+    Ok(state)
 }
 
 // How many drawings there are and how many answers are as stored.
-fn print_counts(drawings: u64, same: u64) {
-    if !io::print_decimal(STDOUT_FILENO, drawings) {
-        return;
-    }
-    if !io::write_all(STDOUT_FILENO, b" drawings, ") {
-        return;
-    }
-    if !io::print_decimal(STDOUT_FILENO, same) {
-        return;
-    }
-    io::write_all(STDOUT_FILENO, b" as stored\n");
+fn print_counts<P: Print>(rt: &P, drawings: u64, same: u64) -> io::Result<()> {
+    println!(rt; "{drawings} drawings, {same} as stored")
 }
 
-fn main() {
+fn main(rt: HostRuntime) -> io::Result<()> {
     let mut answer = [0u8; 12288];
     let mut stored = [0u8; 12288];
-    let state = replay_lines(&mut answer, &mut stored);
-    if state.stopped {
-        return;
-    }
-    let end = state.settled(&answer, &stored);
-    if !end.stopped {
-        print_counts(end.drawings, end.same);
-    }
+    let state = replay_lines(&rt, &mut rt.stdin(), &mut answer, &mut stored)?;
+    let end = state.settled(&rt, &answer, &stored)?;
+    print_counts(&rt, end.drawings, end.same)
 }

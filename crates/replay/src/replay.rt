@@ -1,12 +1,12 @@
 // What the lines of the stored file do, one behind another: a rectangle, a drawing, or a line of a stored answer.
-ghost use Rattle.std.specs.Prelude.{◌≡◌, ◌≤◌, take};
+ghost use Rattle.std.specs.Prelude.{◌≡◌, ◌≤◌, take, IfOk};
 ghost use Rattle.text.specs.Same.{same};
 ghost use Rattle.replay.specs.Fits.{Fits, Fronts, Next};
 
-use libc::STDOUT_FILENO;
 use plane::rect::Rect64;
 use program::answers::answer_line;
-use std::num::wrapping_add_u64;
+use std::io;
+use std::io::Print;
 use text::comparing::same_bytes;
 use text::reading::{Request, read_line};
 
@@ -20,7 +20,6 @@ pub(crate) struct Replay {
     pub kept: usize,
     pub drawings: u64,
     pub same: u64,
-    pub stopped: bool,
 }
 
 // Whether the fronts of two lists are equal.
@@ -57,23 +56,17 @@ fn keep(line: &[u8], stored: &mut [u8; 12288], from: usize) -> usize
     put(10, stored, end)
 }
 
-// Answers whether all of it was written.
-fn print_difference(line: u64) -> bool {
-    if !io::write_all(STDOUT_FILENO, b"line ") {
-        return false;
-    }
-    if !io::print_decimal(STDOUT_FILENO, line) {
-        return false;
-    }
-    io::write_all(STDOUT_FILENO, b" differs\n")
+// An error where not all of it was written.
+fn print_difference<P: Print>(rt: &P, line: u64) -> io::Result<()> {
+    println!(rt; "line {line} differs")
 }
 
-// Prints a drawing whose answer is not the stored one; answers whether a write failed.
-fn print_unless(equal: bool, line: u64) -> bool {
+// Prints a drawing whose answer is not the stored one; an error where a write failed.
+fn print_unless<P: Print>(rt: &P, equal: bool, line: u64) -> io::Result<()> {
     if equal {
-        return false;
+        return Ok(());
     }
-    !print_difference(line)
+    print_difference(rt, line)
 }
 
 // Line 1 of the clip program's input, as far as it is one.
@@ -94,30 +87,33 @@ impl Replay {
             kept: 0,
             drawings: 0,
             same: 0,
-            stopped: false,
         }
     }
 
-    // The last drawing is counted; one whose answer is not the stored one is printed.
-    pub(crate) fn settled(self, answer: &[u8; 12288], stored: &[u8; 12288]) -> Replay
+    // The last drawing is counted; one whose answer is not the stored one is printed. An error where a write failed, which ends the program.
+    pub(crate) fn settled<P: Print>(
+        self,
+        rt: &P,
+        answer: &[u8; 12288],
+        stored: &[u8; 12288],
+    ) -> io::Result<Replay>
         requires { Fits self }
-        ensures { Fits result }
+        ensures { IfOk result (λ state. Fits state) }
     {
         if self.line == 0 {
-            return self;
+            return Ok(self);
         }
         let equal = same_fronts(answer, self.size, stored, self.kept);
-        let stopped = print_unless(equal, self.line);
+        print_unless(rt, equal, self.line)?;
         let rect = self.rect;
-        Replay {
+        Ok(Replay {
             rect,
             line: 0,
             size: 0,
             kept: 0,
-            drawings: wrapping_add_u64(self.drawings, 1),
-            same: wrapping_add_u64(self.same, equal as u64),
-            stopped,
-        }
+            drawings: self.drawings.wrapping_add(1),
+            same: self.same.wrapping_add(equal as u64),
+        })
     }
 
     // A line of the stored answer.
@@ -134,7 +130,6 @@ impl Replay {
             kept,
             drawings: self.drawings,
             same: self.same,
-            stopped: self.stopped,
         }
     }
 
@@ -145,7 +140,6 @@ impl Replay {
     {
         let drawings = self.drawings;
         let same = self.same;
-        let stopped = self.stopped;
         let request = read_first(line);
         if let Request::Rectangle(rect) = request {
             return Replay {
@@ -155,7 +149,6 @@ impl Replay {
                 kept: 0,
                 drawings,
                 same,
-                stopped,
             };
         }
         let rect = self.rect;
@@ -167,30 +160,31 @@ impl Replay {
             kept: 0,
             drawings,
             same,
-            stopped,
         }
     }
 
     // The next line: a comment, behind `#`; a line of the stored answer, behind `=`; or a rectangle or a drawing.
-    pub(crate) fn next(
+    pub(crate) fn next<P: Print>(
         self,
+        rt: &P,
         number: u64,
         line: &[u8],
         answer: &mut [u8; 12288],
         stored: &mut [u8; 12288],
-    ) -> Replay
+    ) -> io::Result<Replay>
         requires { Next self number }
-        ensures { Fits result }
+        ensures { IfOk result (λ state. Fits state) }
     {
         if line.len() == 0 {
-            return self;
+            return Ok(self);
         }
         if line[0] == 35 {
-            return self;
+            return Ok(self);
         }
         if line[0] == 61 {
-            return self.stored(line, stored);
+            return Ok(self.stored(line, stored));
         }
-        self.settled(answer, stored).asked(number, line, answer)
+        let state = self.settled(rt, answer, stored)?;
+        Ok(state.asked(number, line, answer))
     }
 }

@@ -1,0 +1,15 @@
+-- `firmware::words::read_words` meets its contract.
+use Rattle.std.proofs.Common.{refl, arith, rules}
+use mir.Syntax.{w64}
+use mir.Val.{SFits}
+use mir.Facts.{to_z-of_z}
+use Rattle.firmware.proofs.Bytes.{read_again, read_end}
+use Rattle.firmware.proofs.words.read_words.Goals as goal
+
+pub loop-i-preserved : goal.loop-i-preserved
+loop-i-preserved c =
+    let f : SFits w64 c.read_word.result = search rules in
+    (read_again c.loop-i.invariant.0 (omega (arith, c.loop-i.invariant.1)) (simp to_z-of_z c.read_word.ensures) refl, refl)
+
+pub returns : goal.returns
+returns c = read_end c.loop-i.invariant.0 (omega (arith, c.loop-i.invariant.1))
