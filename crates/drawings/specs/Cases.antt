@@ -1,8 +1,7 @@
 -- A drawing with the Rust's answer: what is given to an entry, and what is shown of the call.
 -- Made by tools/tables.py.
-use Rattle.std.specs.Prelude.{Bool, true, false, List, [], ◌∷◌, ℕ, ◌+◌, ◌*◌, length, replicate, ℤ, pos, neg_ℤ}
+use Rattle.std.specs.Prelude.{Bool, true, false, List, [], ◌∷◌, ℕ, ◌+◌, ◌*◌, length, replicate, ℤ, pos, neg_ℤ, if◌then◌else◌}
 use Rattle.plane.specs.declared.rect.Rect64.{Rect64}
-use Rattle.plane.specs.Basics.{if◌then◌else◌}
 use Rattle.plane.specs.Points.{points_of, coordinates_of}
 use Rattle.reference.specs.Entry.{Lent, After, Outcome, refused, drawn, clip_closed, clip_open}
 use Rattle.reference.specs.Walk.{walked_outline}

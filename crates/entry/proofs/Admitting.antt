@@ -1,4 +1,5 @@
 -- What the checks of a call say: each way by which a call is stopped, and what is known of one that is let through. Assumes nothing.
+use Rattle.std.specs.Prelude.{if◌then◌else◌}
 use mathlib.Core.Path.{◌≡◌, refl}
 use mathlib.Core.Bool.{Bool, true, false, not}
 use mathlib.Core.List.{List}
@@ -9,7 +10,6 @@ use lib.Dec.{eqb, ltb}
 use lib.IntN.{ℤ}
 use lib.ListN.{length}
 use Rattle.plane.specs.declared.rect.Rect64.{Rect64}
-use Rattle.plane.specs.Basics.{if◌then◌else◌}
 use Rattle.plane.specs.Limit.{all_in_limit, rect_in_limit}
 use Rattle.plane.specs.Points.{points_of}
 use Rattle.plane.specs.Rectangle.{get_bounds_path}

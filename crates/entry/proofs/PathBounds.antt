@@ -1,4 +1,5 @@
 -- A path's bounds: the loop that grows them, and that all coordinates are within the limit exactly if the path has no points or its bounds are. Assumes nothing.
+use Rattle.std.specs.Prelude.{if◌then◌else◌}
 use mathlib.Core.Path.{◌≡◌, refl, sym, ap, ◌∙◌, subst}
 use mathlib.Core.Bool.{Bool, true, false, ◌&&◌}
 use mathlib.Core.Logic.{⊎_elim}
@@ -13,7 +14,6 @@ use lib.Seq.{drop-cons}
 use lib.Signed.{lt_z, ◌≤ℤ◌, ◌<ℤ◌}
 use Rattle.integers.specs.Order.{zint, abs_pn, parts}
 use Rattle.integers.specs.Tests.{ltZ_true, ltZ_false, lt_ltZ, cond_true}
-use Rattle.plane.specs.Basics.{if◌then◌else◌}
 use Rattle.plane.specs.Limit.{in_limit, all_in_limit, rect_in_limit, LimitedRect}
 use Rattle.plane.specs.Points.{point, points_of, coordinates_of}
 use Rattle.plane.specs.Rectangle.{grown, bounds_from, no_bounds, get_bounds_path}

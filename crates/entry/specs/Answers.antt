@@ -1,6 +1,5 @@
 -- Document 01's numbers and values for the cases of the answers.
-use Rattle.std.specs.Prelude.{List, ℕ, eqb, ℤ}
-use Rattle.plane.specs.Basics.{if◌then◌else◌}
+use Rattle.std.specs.Prelude.{List, ℕ, eqb, ℤ, if◌then◌else◌}
 use Rattle.plane.specs.Points.{points_of}
 use Rattle.plane.specs.Rectangle.{get_bounds_path}
 use Rattle.plane.specs.declared.rect.Rect64.{Rect64}

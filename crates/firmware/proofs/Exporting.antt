@@ -1,5 +1,6 @@
 -- What is sent of a clipper's answer is the definition's `exported`: the checks before it are the same, and a call leaves its drawing in the
 -- lists, which have room for every one. Assumes nothing.
+use Rattle.std.specs.Prelude.{if◌then◌else◌}
 use mathlib.Core.Path.{◌≡◌, refl, ◌∙◌, ap}
 use mathlib.Core.Bool.{Bool, true, false, not}
 use mathlib.Core.List.{List}
@@ -11,7 +12,6 @@ use lib.Dec.{eqb, ltb}
 use lib.IntN.{ℤ}
 use borrow.Author.Tests.{lt-ltb, ltb-true, ltb-false, eqb-true, ne_eqb}
 use Rattle.plane.specs.declared.rect.Rect64.{Rect64}
-use Rattle.plane.specs.Basics.{if◌then◌else◌}
 use Rattle.reference.specs.Entry.{Outcome, filled, sheet_refusal}
 use Rattle.reference.specs.Exported.{Bytes, read_words, exported}
 use Rattle.entry.specs.declared.answer.Answer.{Answer}

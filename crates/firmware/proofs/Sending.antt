@@ -1,4 +1,5 @@
 -- What is sent of an answer: the four ways of a result, and that what a call leaves can be sent and is the end of `exported`. Assumes nothing.
+use Rattle.std.specs.Prelude.{if◌then◌else◌}
 use mathlib.Core.Path.{◌≡◌, refl, sym, ◌∙◌, ap, subst}
 use mathlib.Core.Bool.{◌||◌}
 use mathlib.Core.List.{List, [], ◌∷◌, map}
@@ -9,7 +10,7 @@ use lib.Seq.{take_at, length-take-le}
 use lib.Dec.{ltb}
 use lib.IntN.{ℤ}
 use borrow.Author.Tests.{lt-ltb, le-ltb, ne_eqb, eq-eqb}
-use Rattle.plane.specs.Basics.{if◌then◌else◌, Try, refuse, ok}
+use Rattle.plane.specs.Basics.{Try, refuse, ok}
 use Rattle.plane.specs.Points.{coordinates_of}
 use Rattle.reference.specs.Entry.{Drawing, Outcome, drawn, joined, filled}
 use Rattle.reference.specs.Exported.{Bytes, bits, words}

@@ -1,6 +1,5 @@
 -- Words of the functions that clip and send a result.
-use Rattle.std.specs.Prelude.{not, ◌||◌, List, [], ◌∷◌, map, ℕ, ◌*◌, ◌%◌, ◌≤◌, length, take, eqb, ltb, ℤ}
-use Rattle.plane.specs.Basics.{if◌then◌else◌}
+use Rattle.std.specs.Prelude.{not, ◌||◌, List, [], ◌∷◌, map, ℕ, ◌*◌, ◌%◌, ◌≤◌, length, take, eqb, ltb, ℤ, if◌then◌else◌}
 use Rattle.reference.specs.Entry.{Outcome, refused, drawn, filled}
 use Rattle.reference.specs.Exported.{Bytes, bits, words}
 

@@ -1,5 +1,6 @@
 -- A call whose lists have room for every drawing leaves the drawing in them: the checks before it are those of `clipped`, and no drawing
 -- is refused with 11. Assumes nothing.
+use Rattle.std.specs.Prelude.{if◌then◌else◌}
 use mathlib.Core.Path.{◌≡◌, refl, ◌∙◌, ap}
 use mathlib.Core.Bool.{Bool, true, false}
 use mathlib.Core.List.{List, map}
@@ -10,7 +11,7 @@ use lib.Dec.{eqb, ltb}
 use lib.IntN.{ℤ, pos}
 use borrow.Author.Tests.{le-ltb, eqb-true, eq-eqb}
 use Rattle.plane.specs.declared.rect.Rect64.{Rect64}
-use Rattle.plane.specs.Basics.{if◌then◌else◌, Try, refuse, ok}
+use Rattle.plane.specs.Basics.{Try, refuse, ok}
 use Rattle.plane.specs.Points.{points_of, coordinates_of}
 use Rattle.reference.specs.Walk.{no_room}
 use Rattle.reference.specs.Entry.{Drawing, Outcome, Lent, After, joined, delivered, answered, early_refusal, sheet_refusal, drawing_of}

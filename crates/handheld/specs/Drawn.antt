@@ -1,10 +1,10 @@
 -- What the handheld draws of a path, a function of rectangle and path alone: document 01's 'W = A = 256 and paths up to 128 points'; lines have A = 0.
 -- Stated of it and proved in proofs/Exact.antt, Bounded.antt and HandsOver.antt: it has demand 3, how large it can be, and a call leaves it in its lists.
-use Rattle.std.specs.Prelude.{◌≡◌, Bool, ℕ, ◌/◌, ◌%◌, ◌≤◌, length, eqb, ℤ, nat_abs}
+use Rattle.std.specs.Prelude.{◌≡◌, Bool, ℕ, ◌/◌, ◌%◌, ◌≤◌, length, eqb, ℤ, nat_abs, if◌then◌else◌}
 use mathlib.Core.List.{List, map, Memᴰ}
 use Rattle.plane.specs.declared.point.Point64.{Point64}
 use Rattle.plane.specs.declared.rect.Rect64.{Rect64}
-use Rattle.plane.specs.Basics.{if◌then◌else◌, Try, refuse, ok}
+use Rattle.plane.specs.Basics.{Try, refuse, ok}
 use Rattle.plane.specs.Points.{points_of, coordinates_of}
 use Rattle.reference.specs.Walk.{no_room}
 use Rattle.reference.specs.Entry.{Drawing, Outcome, refused, joined, filled, counts_of, sheet_refusal, drawing_of}

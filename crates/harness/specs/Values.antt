@@ -1,7 +1,6 @@
 -- The value of an exported function: 0 or the refusal's number, with the counts of a result in a list of their own. `present`: 0, 1, or 100 and the number.
-use Rattle.std.specs.Prelude.{◌≡◌, List, [], ◌∷◌, Bool, ℕ, ◌+◌, length, get_or, ltb, ℤ}
+use Rattle.std.specs.Prelude.{◌≡◌, List, [], ◌∷◌, Bool, ℕ, ◌+◌, length, get_or, ltb, ℤ, if◌then◌else◌}
 use Rattle.plane.specs.declared.rect.Rect64.{Rect64}
-use Rattle.plane.specs.Basics.{if◌then◌else◌}
 use Rattle.reference.specs.Entry.{Outcome, refused, drawn, Lent, After, filled, cleared, Presence, unknown, yes, no}
 use Rattle.rectclip.specs.Promises.{Returned}
 

@@ -1,9 +1,8 @@
 -- `get_segment_intersection` and `get_intersection` of rectclip.rs: the crossing of a segment with an edge, and the search over the edges.
-use Rattle.std.specs.Prelude.{◌||◌, ℕ, pos}
+use Rattle.std.specs.Prelude.{◌||◌, ℕ, pos, if◌then◌else◌}
 use Rattle.std.specs.Bool.{beq}
 use Rattle.std.specs.Int.Signed.{lt_z}
 use Rattle.integers.specs.Tests.{eq_z}
-use Rattle.plane.specs.Basics.{if◌then◌else◌}
 use Rattle.plane.specs.Locations.{lower, upper}
 use Rattle.plane.specs.Points.{same_point, pt_at}
 use Rattle.plane.specs.Rectangle.{as_path, beyond}

@@ -1,8 +1,7 @@
 -- `Rect64` of core.rs: its tests, corners and mid point; bounds of a path; where a point lies. Y grows downward.
-use Rattle.std.specs.Prelude.{Bool, true, false, ◌&&◌, ◌||◌, List, [], ◌∷◌, ℕ, ◌+◌, ◌%◌, ◌/◌, ◌^◌, eqb, ℤ, pos, negsuc, ◌+ℤ◌}
+use Rattle.std.specs.Prelude.{Bool, true, false, ◌&&◌, ◌||◌, List, [], ◌∷◌, ℕ, ◌+◌, ◌%◌, ◌/◌, ◌^◌, eqb, ℤ, pos, negsuc, ◌+ℤ◌, if◌then◌else◌}
 use Rattle.std.specs.Int.Signed.{lt_z, le_z, quot_z}
 use Rattle.integers.specs.Tests.{eq_z}
-use Rattle.plane.specs.Basics.{if◌then◌else◌}
 use Rattle.plane.specs.Points.{point}
 use Rattle.plane.specs.declared.location.Location.{Location}
 use Rattle.plane.specs.declared.location.Location.TheVariants.{Left, Top, Right, Bottom, Inside}

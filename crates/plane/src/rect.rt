@@ -1,9 +1,8 @@
 // The rectangle: its tests, corners and mid point, and where a point lies. Y grows downward: top is the smaller y.
-ghost use Rattle.std.specs.Prelude.{◌≡◌, ◌≤◌, pos, ◌+ℤ◌};
+ghost use Rattle.std.specs.Prelude.{◌≡◌, ◌≤◌, pos, ◌+ℤ◌, if◌then◌else◌};
 ghost use Rattle.plane.specs.Rectangle.{is_empty, contains_point, contains_rect, intersects, max, min, mid_point, as_path, corner, beyond, beyond_or_on, get_location, get_edges_for_pt, rect};
 ghost use Rattle.plane.specs.Limit.{in_limit, rect_in_limit};
 ghost use Rattle.plane.specs.Points.{coordinates_of};
-ghost use Rattle.plane.specs.Basics.{if◌then◌else◌};
 ghost use Rattle.integers.specs.Tests.{eq_z};
 ghost use Rattle.std.specs.Int.Signed.{quot_z};
 

@@ -1,4 +1,5 @@
 -- The bytes at hand, and what is before and behind the first line feed of bytes: a byte at a time, and behind bytes that have none. Assumes nothing.
+use Rattle.std.specs.Prelude.{if◌then◌else◌}
 use mathlib.Core.Path.{◌≡◌, refl, sym, ◌∙◌, ap}
 use mathlib.Core.Bool.{Bool, true, false}
 use mathlib.Core.List.{List, [], ◌∷◌, ◌++◌, append-nil}
@@ -8,7 +9,6 @@ use lib.ListN.{length, take, drop, get_or}
 use lib.Seq.{take-nil, drop-nil, drop-cons, drop-drop}
 use lib.Dec.{eqb, ltb}
 use borrow.Author.Tests.{eq-eqb, ne_eqb, ltb-true, ltb-false}
-use Rattle.plane.specs.Basics.{if◌then◌else◌}
 use Rattle.program.specs.declared.input.Cursor.{Cursor}
 use Rattle.program.specs.Taken.{before_feed, has_feed, behind_feed, at_hand, passed, held}
 

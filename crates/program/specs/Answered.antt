@@ -1,7 +1,7 @@
 -- What the clip program prints for a line, of document 01's section 'The clip program': 'Line 1 gives only 12 or 6', '12 comes before
 -- the other checks', and for a path the refusal or the lines of its drawing's paths. Functions of rectangle, line number and request alone.
-use Rattle.std.specs.Prelude.{◌≡◌, Bool, List, ℕ, ◌≤◌, length, ℤ, pos}
-use Rattle.plane.specs.Basics.{if◌then◌else◌, Try, refuse, ok}
+use Rattle.std.specs.Prelude.{◌≡◌, Bool, List, ℕ, ◌≤◌, length, ℤ, pos, if◌then◌else◌}
+use Rattle.plane.specs.Basics.{Try, refuse, ok}
 use Rattle.plane.specs.Limit.{rect_in_limit}
 use Rattle.plane.specs.declared.rect.Rect64.{Rect64}
 use Rattle.reference.specs.Entry.{Drawing, filled}

@@ -1,6 +1,5 @@
 -- Bytes at the front of a lent list, and words of the functions that write them.
-use Rattle.std.specs.Prelude.{◌≡◌, Bool, List, ◌++◌, map, ℕ, ◌+◌, ◌%◌, ◌≤◌, length, take, drop, eqb, ltb, ℤ}
-use Rattle.plane.specs.Basics.{if◌then◌else◌}
+use Rattle.std.specs.Prelude.{◌≡◌, Bool, List, ◌++◌, map, ℕ, ◌+◌, ◌%◌, ◌≤◌, length, take, drop, eqb, ltb, ℤ, if◌then◌else◌}
 use Rattle.plane.specs.Points.{coordinates_of}
 use Rattle.plane.specs.declared.point.Point64.{Point64}
 use Rattle.plane.specs.declared.rect.Rect64.{Rect64}

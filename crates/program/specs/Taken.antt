@@ -1,10 +1,9 @@
 -- A line of the input, of document 01's sentence 'Lines end with a line feed, which the last may lack': what `take_held` takes of the bytes that
 -- the buffer holds, and what `take_line` takes of those and of the bytes that are read behind them.
-use Rattle.std.specs.Prelude.{◌≡◌, Bool, true, false, ℕ, ◌+◌, ◌-◌, ◌≤◌, min, length, take, drop, eqb, Option}
+use Rattle.std.specs.Prelude.{◌≡◌, Bool, true, false, ℕ, ◌+◌, ◌-◌, ◌≤◌, min, length, take, drop, eqb, Option, if◌then◌else◌}
 use mathlib.Core.List.{List, [], ◌∷◌, ◌++◌, Memᴰ}
 use Rattle.std.proofs.lemmas.List.Edits.{sets}
 use Rattle.std.specs.Io.KnownBytes.{Consumes}
-use Rattle.plane.specs.Basics.{if◌then◌else◌}
 use Rattle.program.specs.declared.input.Cursor.{Cursor}
 use Rattle.program.specs.declared.input.Held.{Held}
 use Rattle.program.specs.declared.input.Taken.{Taken}

@@ -1,4 +1,5 @@
 -- The work list as the definition's arena: what a read at a field is there, and what a store does to it. One law for each kind of field. Assumes nothing.
+use Rattle.std.specs.Prelude.{if◌then◌else◌}
 use mathlib.Core.Path.{◌≡◌, refl, ◌∙◌, ap}
 use mathlib.Core.List.{List, [], ◌∷◌}
 use Prim.Native.Nat.{ℕ, zero, suc, ◌+◌, ◌<◌, ◌≤◌}
@@ -7,7 +8,7 @@ use native.Mathlib.Decide.{ℕ_discrete}
 use lib.ListN.{length, get_or, set}
 use lib.Dec.{eqb, ltb}
 use borrow.Author.Tests.{eq-eqb, ne_eqb}
-use Rattle.plane.specs.Basics.{if◌then◌else◌, none, push}
+use Rattle.plane.specs.Basics.{none, push}
 use Rattle.reference.specs.Arena.{owner_of, edge_of, next_of, prev_of, result_of, edge_list, set_owner, set_edge, set_next, set_prev, set_results, set_edge_list, set_result, set_entry}
 use Rattle.rectclip.specs.declared.arena.Sizes.{Sizes}
 use Rattle.rectclip.specs.Memory.{at, put, Room, column}

@@ -1,5 +1,6 @@
 -- A call of either clipper: it is refused early, or the drawing is worked out and both working lists are cleared; its paths have demand 3.
 -- Assumes nothing.
+use Rattle.std.specs.Prelude.{if◌then◌else◌}
 use mathlib.Core.Path.{◌≡◌, refl, sym, ◌∙◌, ap, subst}
 use mathlib.Core.Bool.{Bool, true, false, ◌||◌}
 use mathlib.Core.List.{List, map}
@@ -12,7 +13,7 @@ use lib.ListN.{length, drop, replicate, length-map}
 use lib.Seq.{take_at}
 use Rattle.integers.specs.Tests.{T_of}
 use Rattle.plane.specs.declared.rect.Rect64.{Rect64}
-use Rattle.plane.specs.Basics.{if◌then◌else◌, Try, refuse, ok}
+use Rattle.plane.specs.Basics.{Try, refuse, ok}
 use Rattle.plane.specs.Points.{points_of, coordinates_of}
 use Rattle.plane.specs.Rectangle.{get_bounds_path}
 use Rattle.reference.specs.Walk.{no_room}

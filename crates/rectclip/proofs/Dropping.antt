@@ -1,4 +1,5 @@
 -- The loops that drop nodes on a line with their neighbours, over the work list, are the definition's, pass by pass. Assumes nothing.
+use Rattle.std.specs.Prelude.{if◌then◌else◌}
 use mathlib.Core.Path.{◌≡◌, refl, sym, ◌∙◌, ap}
 use mathlib.Core.Bool.{Bool, true, false, not, ◌&&◌, ◌||◌}
 use mathlib.Core.List.{List}
@@ -10,7 +11,7 @@ use lib.ListN.{length}
 use lib.Dec.{eqb}
 use borrow.Author.Tests.{eq-eqb, ne_eqb}
 use Rattle.plane.specs.declared.point.Point64.{Point64}
-use Rattle.plane.specs.Basics.{if◌then◌else◌, none}
+use Rattle.plane.specs.Basics.{none}
 use Rattle.reference.specs.Arena.{Arena, next_of, prev_of, unlink_op_back, is_flat, drop_collinear_pass, drop_collinear}
 use Rattle.reference.specs.Clip.{straighten_pass}
 use Rattle.rectclip.specs.declared.arena.Sizes.{Sizes}

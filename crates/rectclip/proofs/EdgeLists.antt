@@ -1,4 +1,5 @@
 -- A node that enters an edge list over the work list, and "Assign edges" with it, are the definition's. Assumes nothing.
+use Rattle.std.specs.Prelude.{if◌then◌else◌}
 use mathlib.Core.Path.{◌≡◌, refl, sym, ◌∙◌, ap}
 use mathlib.Core.Bool.{Bool, true, false}
 use mathlib.Core.List.{List}
@@ -9,7 +10,7 @@ use borrow.Author.Tests.{eq-eqb, ne_eqb}
 use Rattle.plane.specs.declared.point.Point64.{Point64}
 use Rattle.plane.specs.declared.rect.Rect64.{Rect64}
 use Rattle.plane.specs.declared.location.Location.{Location}
-use Rattle.plane.specs.Basics.{if◌then◌else◌, none, push}
+use Rattle.plane.specs.Basics.{none, push}
 use Rattle.plane.specs.Locations.{side}
 use Rattle.plane.specs.Signs.{is_heading_clockwise}
 use Rattle.plane.specs.Rectangle.{get_edges_for_pt, has_edge}

@@ -1,5 +1,6 @@
 -- The path goes round the rectangle: the four corners are added one after the other, and since neighbours differ, they are the last
 -- four points of the walk. Assumes nothing.
+use Rattle.std.specs.Prelude.{if◌then◌else◌}
 use mathlib.Core.Path.{◌≡◌, refl, sym, ◌∙◌, ap, subst}
 use mathlib.Core.Bool.{Bool, true, false, ◌&&◌}
 use mathlib.Core.List.{List, [], ◌∷◌}
@@ -13,7 +14,7 @@ use Rattle.integers.specs.Tests.{eq_z, leZ_false, ne_eqZ}
 use Rattle.plane.specs.declared.point.Point64.{Point64}
 use Rattle.plane.specs.declared.rect.Rect64.{Rect64}
 use Rattle.plane.specs.declared.location.Location.TheVariants.{Left, Top, Right, Bottom}
-use Rattle.plane.specs.Basics.{if◌then◌else◌, Try, refuse, ok, ◌>>=◌}
+use Rattle.plane.specs.Basics.{Try, refuse, ok, ◌>>=◌}
 use Rattle.plane.specs.Points.{same_point, pt_at}
 use Rattle.plane.specs.Rectangle.{is_empty, corner}
 use Rattle.reference.specs.Walk.{Walk, add, add_all, add_round}

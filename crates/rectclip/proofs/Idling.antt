@@ -1,4 +1,5 @@
 -- Turns of `tidy_edges` that change no list, one after another, are the definition's. Assumes nothing.
+use Rattle.std.specs.Prelude.{if◌then◌else◌}
 use mathlib.Core.Path.{◌≡◌, refl, sym, ◌∙◌, ap}
 use mathlib.Core.Bool.{Bool, true, false}
 use mathlib.Core.List.{List}
@@ -9,7 +10,7 @@ use lib.IntN.{ℤ}
 use lib.Dec.{ltb}
 use borrow.Author.Tests.{lt-ltb}
 use Rattle.plane.specs.declared.point.Point64.{Point64}
-use Rattle.plane.specs.Basics.{if◌then◌else◌, none, ok}
+use Rattle.plane.specs.Basics.{none, ok}
 use Rattle.reference.specs.Arena.{Arena, edge_list}
 use Rattle.reference.specs.Tidy.{is_horz, cw_is_toward_larger, four_of, overlap, one_turn, turn, turns_from}
 use Rattle.reference.specs.Tidy as reference

@@ -1,4 +1,5 @@
 -- `point_in_polygon` way by way, and the turns of `path1_contains_path2`. Assumes nothing.
+use Rattle.std.specs.Prelude.{if◌then◌else◌}
 use mathlib.Core.Path.{◌≡◌, refl, sym, ap, ◌∙◌}
 use mathlib.Core.Bool.{Bool, true, false, ◌||◌}
 use mathlib.Core.List.{List, [], ◌∷◌}
@@ -12,7 +13,6 @@ use lib.Seq.{drop-cons}
 use lib.Signed.{lt_z}
 use borrow.Author.Tests.{eq-eqb, ne_eqb, lt-ltb, le-ltb}
 use Rattle.integers.specs.Tests.{cond_true, cond_false}
-use Rattle.plane.specs.Basics.{if◌then◌else◌}
 use Rattle.plane.specs.Points.{origin, points_of, pt_at}
 use Rattle.plane.specs.Polygon.{first_off, scan_loop, point_in_polygon, counted, contains_from}
 use Rattle.plane.specs.Polygon as polygon

@@ -1,4 +1,5 @@
 -- The results of a walk one after the other: where each starts and ends, which are returned, and how many points they have. Assumes nothing.
+use Rattle.std.specs.Prelude.{if◌then◌else◌}
 use mathlib.Core.Path.{◌≡◌, refl, sym, ◌∙◌, ap}
 use mathlib.Core.List.{List, [], ◌∷◌, ◌++◌, append_assoc, append-nil}
 use Prim.Native.Nat.{ℕ, ◌+◌, ◌-◌, ◌<◌, ◌≤◌}
@@ -11,7 +12,6 @@ use lib.IntN.{ℤ}
 use lib.ListN.{length, get_or, take, drop, length-append, length-drop, drop_of_length-le}
 use lib.Seq.{drop-cons, take_all, length-take-le}
 use Rattle.plane.specs.declared.point.Point64.{Point64}
-use Rattle.plane.specs.Basics.{if◌then◌else◌}
 use Rattle.reference.specs.Lines.{pieces, longer_than_one}
 use Rattle.reference.specs.Entry.{joined}
 use Rattle.rectclip.specs.declared.walk.WalkState.{WalkState}

@@ -1,4 +1,5 @@
 -- A pass, the end and the loop of `point_in_polygon`, way by way. Assumes nothing.
+use Rattle.std.specs.Prelude.{if◌then◌else◌}
 use mathlib.Core.Path.{◌≡◌, refl, sym, ap, ◌∙◌, subst}
 use mathlib.Core.Bool.{Bool, true, false, ◌&&◌, ◌||◌, beq}
 use mathlib.Core.List.{List}
@@ -9,7 +10,6 @@ use lib.IntN.{ℤ, pos}
 use lib.ListN.{length}
 use lib.Signed.{lt_z}
 use Rattle.integers.specs.Tests.{eq_z}
-use Rattle.plane.specs.Basics.{if◌then◌else◌}
 use Rattle.plane.specs.Points.{points_of, pt_at}
 use Rattle.plane.specs.Signs.{cross_product_sign}
 use Rattle.plane.specs.Polygon.{skipped, before_idx, at_vertex, scan_pass, scan_answer, scan_loop}

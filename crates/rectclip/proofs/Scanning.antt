@@ -1,4 +1,5 @@
 -- `get_next_location`: the scan of points past a side's line, and the points that are added from inside. Assumes nothing.
+use Rattle.std.specs.Prelude.{if◌then◌else◌}
 use mathlib.Core.Path.{◌≡◌, refl, sym, ◌∙◌, ap}
 use mathlib.Core.Bool.{Bool, true, false, cond}
 use mathlib.Core.List.{List, [], ◌∷◌}
@@ -14,7 +15,7 @@ use Rattle.plane.specs.declared.point.Point64.{Point64}
 use Rattle.plane.specs.declared.rect.Rect64.{Rect64}
 use Rattle.plane.specs.declared.location.Location.{Location}
 use Rattle.plane.specs.declared.location.Location.TheVariants.{Left, Top, Right, Bottom, Inside}
-use Rattle.plane.specs.Basics.{if◌then◌else◌, lead, refuse, ok}
+use Rattle.plane.specs.Basics.{lead, refuse, ok}
 use Rattle.plane.specs.Locations.{is_inside, opposite, lower, upper}
 use Rattle.plane.specs.Points.{origin, pt_at, points_of}
 use Rattle.plane.specs.Rectangle.{beyond, beyond_or_on}

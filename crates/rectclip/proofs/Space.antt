@@ -1,4 +1,5 @@
 -- Room for results and edge lists over the steps of a turn: a turn takes at most one result and one entry more. Assumes nothing.
+use Rattle.std.specs.Prelude.{if◌then◌else◌}
 use mathlib.Core.Path.{◌≡◌, ap}
 use mathlib.Core.Bool.{Bool, true, false}
 use mathlib.Core.List.{[], ◌∷◌}
@@ -10,7 +11,7 @@ use lib.ListN.{length, set, length-set, length-append}
 use lib.Seq.{get_or-set_same}
 use lib.Dec.{eqb}
 use borrow.Author.Tests.{eq-eqb, ne_eqb}
-use Rattle.plane.specs.Basics.{if◌then◌else◌, none, push}
+use Rattle.plane.specs.Basics.{none, push}
 use Rattle.reference.specs.Arena.{Arena, next_of, owner_of, edge_of, edge_list, set_next, set_prev, set_owner, set_edge, set_edge_list, set_results, set_entry, struck, own_from, set_new_owner, add_to_edge, uncouple_edge}
 use Rattle.reference.specs.Tidy.{Four, relink, cw_is_toward_larger}
 use Rattle.rectclip.specs.Arenas.{Marked, Space}

@@ -1,4 +1,5 @@
 -- Room for results and edge lists, as the arena's lists have it: what entering a list, striking an entry and pushing take. Assumes nothing.
+use Rattle.std.specs.Prelude.{if◌then◌else◌}
 use mathlib.Core.Path.{◌≡◌, ◌∙◌, ap}
 use mathlib.Core.Bool.{Bool, true, false, not, ◌&&◌, ◌||◌}
 use mathlib.Core.List.{List, [], ◌∷◌}
@@ -10,7 +11,7 @@ use lib.ListN.{length, get_or, set, length-set, length-append}
 use lib.Dec.{eqb}
 use borrow.Author.Tests.{eq-eqb, ne_eqb}
 use Rattle.plane.specs.declared.point.Point64.{Point64}
-use Rattle.plane.specs.Basics.{if◌then◌else◌, none, push}
+use Rattle.plane.specs.Basics.{none, push}
 use Rattle.reference.specs.Arena.{Arena, Round, next_of, prev_of, edge_of, edge_list, set_edge, set_next, set_prev, set_result, set_results, set_edge_list, unlink, unlink_op_back, is_flat, drop_collinear_pass, drop_collinear}
 use Rattle.rectclip.specs.declared.arena.Sizes.{Sizes}
 use Rattle.rectclip.specs.Arenas.{arena_at, free, Space, Spare}

@@ -1,5 +1,6 @@
 -- The start sides in the work list: which side stands at a place, and the count of the steps along them, by which they go clockwise
 -- or not. Assumes nothing.
+use Rattle.std.specs.Prelude.{if◌then◌else◌}
 use mathlib.Core.Path.{◌≡◌, refl, sym, ◌∙◌, ap}
 use mathlib.Core.Bool.{Bool, true, false}
 use mathlib.Core.List.{List, [], ◌∷◌, map}
@@ -15,7 +16,6 @@ use Rattle.integers.specs.Ring.{var, con, ◌⊕◌, ◌⊖◌, ring}
 use Rattle.integers.specs.Tests.{T_of, ltZ_sub, eq_z, eqZ_true}
 use Rattle.plane.specs.declared.location.Location.{Location}
 use Rattle.plane.specs.declared.location.Location.TheVariants.{Inside}
-use Rattle.plane.specs.Basics.{if◌then◌else◌}
 use Rattle.plane.specs.Locations.{side_number, step_of, steps_of, start_locs_are_clockwise}
 use Rattle.theorems.proofs.Locations.{every, each}
 use Rattle.rectclip.specs.declared.outline.Turns.{Turns}

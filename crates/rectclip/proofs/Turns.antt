@@ -1,4 +1,5 @@
 -- One turn of `tidy_edges` over the work list is the definition's: what regroups the rings, and each way of the turn. Assumes nothing.
+use Rattle.std.specs.Prelude.{if◌then◌else◌}
 use mathlib.Core.Path.{◌≡◌, refl, sym, ◌∙◌, ap, subst}
 use mathlib.Core.Bool.{Bool, true, false, not}
 use mathlib.Core.List.{List}
@@ -9,7 +10,7 @@ use lib.IntN.{ℤ}
 use lib.Dec.{eqb, leb}
 use borrow.Author.Tests.{eq-eqb, ne_eqb, le-leb, lt-leb}
 use Rattle.plane.specs.declared.point.Point64.{Point64}
-use Rattle.plane.specs.Basics.{if◌then◌else◌, none}
+use Rattle.plane.specs.Basics.{none}
 use Rattle.reference.specs.Arena.{Arena, owner_of, edge_list, set_entry}
 use Rattle.reference.specs.Tidy.{is_stub, seek, is_horz, cw_is_toward_larger, four_of, overlap, relink, regroup, settle, rejoin, one_turn, turn}
 use Rattle.reference.specs.Tidy as reference

@@ -1,7 +1,7 @@
 -- The arena as the work list holds it: fields 0 to 3 of slot i are node i's links, owner and edge, field 4 is result i,
 -- and fields 8 to 15 are the eight edge lists. `arena_at` is what the definition's Arena is here; `Valid` says that every number is in its range.
-use Rattle.std.specs.Prelude.{◌≡◌, List, [], ◌∷◌, ℕ, suc, ◌+◌, ◌<◌, ◌≤◌, length, get_or, set, eqb}
-use Rattle.plane.specs.Basics.{if◌then◌else◌, none}
+use Rattle.std.specs.Prelude.{◌≡◌, List, [], ◌∷◌, ℕ, suc, ◌+◌, ◌<◌, ◌≤◌, length, get_or, set, eqb, if◌then◌else◌}
+use Rattle.plane.specs.Basics.{none}
 use Rattle.reference.specs.Arena.{Arena, owner_of, edge_of, next_of, prev_of, result_of, edge_list}
 use Rattle.rectclip.specs.declared.arena.Sizes.{Sizes}
 use Rattle.rectclip.specs.Memory.{Room, column}

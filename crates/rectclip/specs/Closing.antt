@@ -1,10 +1,10 @@
 -- The closed walk on the lent lists: what a pass knows and hands on, parts of a pass that the code has in functions of their own,
 -- what its functions ask and what they ensure.
-use Rattle.std.specs.Prelude.{◌≡◌, Bool, true, false, not, ◌&&◌, List, ℕ, ◌<◌, ℤ}
+use Rattle.std.specs.Prelude.{◌≡◌, Bool, true, false, not, ◌&&◌, List, ℕ, ◌<◌, ℤ, if◌then◌else◌}
 use Rattle.plane.specs.declared.point.Point64.{Point64}
 use Rattle.plane.specs.declared.rect.Rect64.{Rect64}
 use Rattle.plane.specs.declared.location.Location.{Location}
-use Rattle.plane.specs.Basics.{if◌then◌else◌, Try, refuse, ok, ◌>>=◌}
+use Rattle.plane.specs.Basics.{Try, refuse, ok, ◌>>=◌}
 use Rattle.plane.specs.Limit.{rect_in_limit, Limited}
 use Rattle.plane.specs.Locations.{is_inside, same_location}
 use Rattle.plane.specs.Points.{same_point}

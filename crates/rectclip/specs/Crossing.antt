@@ -1,9 +1,9 @@
 -- The line clipper's walk: what its functions ask of the lists, the rectangle and the segment, and what a step is as a move.
-use Rattle.std.specs.Prelude.{◌≡◌, Bool, true, false, List, ℕ, ◌+◌, ◌/◌, ◌≤◌, ℤ, length}
+use Rattle.std.specs.Prelude.{◌≡◌, Bool, true, false, List, ℕ, ◌+◌, ◌/◌, ◌≤◌, ℤ, length, if◌then◌else◌}
 use Rattle.plane.specs.declared.point.Point64.{Point64}
 use Rattle.plane.specs.declared.rect.Rect64.{Rect64}
 use Rattle.plane.specs.declared.location.Location.{Location}
-use Rattle.plane.specs.Basics.{if◌then◌else◌, Try, ok, ◌>>=◌}
+use Rattle.plane.specs.Basics.{Try, ok, ◌>>=◌}
 use Rattle.plane.specs.Locations.{is_inside}
 use Rattle.plane.specs.Points.{pt_at}
 use Rattle.reference.specs.Walk.{Walk, Next, nothing_yet, add, get_next_location}

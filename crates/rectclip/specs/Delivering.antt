@@ -1,9 +1,9 @@
 -- Words of the polygon clipper's functions below its entry: the walk's arena, what is left to read out of it, what is handed out,
 -- and what the functions ask.
-use Rattle.std.specs.Prelude.{◌≡◌, Bool, true, false, List, [], ◌∷◌, map, ℕ, ◌+◌, ◌-◌, ◌*◌, ◌/◌, ◌%◌, ◌<◌, ◌≤◌, T, ℤ, length}
+use Rattle.std.specs.Prelude.{◌≡◌, Bool, true, false, List, [], ◌∷◌, map, ℕ, ◌+◌, ◌-◌, ◌*◌, ◌/◌, ◌%◌, ◌<◌, ◌≤◌, T, ℤ, length, if◌then◌else◌}
 use Rattle.plane.specs.declared.point.Point64.{Point64}
 use Rattle.plane.specs.declared.rect.Rect64.{Rect64}
-use Rattle.plane.specs.Basics.{if◌then◌else◌, upwards, Try, refuse, ok, ◌>>=◌}
+use Rattle.plane.specs.Basics.{upwards, Try, refuse, ok, ◌>>=◌}
 use Rattle.plane.specs.Limit.{all_in_limit, rect_in_limit}
 use Rattle.plane.specs.Points.{points_of}
 use Rattle.plane.specs.Rectangle.{get_bounds_path}

@@ -1,11 +1,11 @@
 -- `get_next_location` on the lent lists: the line of a side, and what a move along the path answers.
-use Rattle.std.specs.Prelude.{◌≡◌, Bool, List, ℕ, ◌≤◌, eqb, ℤ}
+use Rattle.std.specs.Prelude.{◌≡◌, Bool, List, ℕ, ◌≤◌, eqb, ℤ, if◌then◌else◌}
 use Rattle.std.specs.Int.Signed.{le_z}
 use Rattle.plane.specs.declared.point.Point64.{Point64}
 use Rattle.plane.specs.declared.rect.Rect64.{Rect64}
 use Rattle.plane.specs.declared.location.Location.{Location}
 use Rattle.plane.specs.declared.location.Location.TheVariants.{Left, Top, Right, Bottom, Inside}
-use Rattle.plane.specs.Basics.{if◌then◌else◌, Try, refuse, ok}
+use Rattle.plane.specs.Basics.{Try, refuse, ok}
 use Rattle.plane.specs.Rectangle.{beyond, beyond_or_on}
 use Rattle.reference.specs.Walk.{Walk, Next}
 use Rattle.rectclip.specs.declared.walk.WalkState.{WalkState}

@@ -1,11 +1,11 @@
 -- The walk of a closed path on the lent lists: its answer as the definition's, and parts of what follows the `while` that the code
 -- has in functions of their own.
-use Rattle.std.specs.Prelude.{◌≡◌, Bool, false, ◌&&◌, ◌||◌, List, [], ◌∷◌, ℕ, ◌+◌, ◌-◌, ◌/◌, ◌%◌, ◌≤◌, eqb, ℤ, length}
+use Rattle.std.specs.Prelude.{◌≡◌, Bool, false, ◌&&◌, ◌||◌, List, [], ◌∷◌, ℕ, ◌+◌, ◌-◌, ◌/◌, ◌%◌, ◌≤◌, eqb, ℤ, length, if◌then◌else◌}
 use Rattle.plane.specs.declared.point.Point64.{Point64}
 use Rattle.plane.specs.declared.rect.Rect64.{Rect64}
 use Rattle.plane.specs.declared.location.Location.{Location}
 use Rattle.plane.specs.declared.location.Location.TheVariants.{Left, Top, Right, Bottom}
-use Rattle.plane.specs.Basics.{if◌then◌else◌, Try, refuse, ok, ◌>>=◌}
+use Rattle.plane.specs.Basics.{Try, refuse, ok, ◌>>=◌}
 use Rattle.plane.specs.Locations.{side_number, same_location, heading_clockwise}
 use Rattle.plane.specs.Points.{points_of}
 use Rattle.plane.specs.Polygon.{path1_contains_path2}

@@ -1,9 +1,8 @@
 -- Parts of the definitions that the code has in functions of their own.
 use Rattle.std.specs.Bool.{beq}
-use Rattle.std.specs.Prelude.{pos}
+use Rattle.std.specs.Prelude.{pos, if◌then◌else◌}
 use Rattle.std.specs.Int.Signed.{lt_z}
 use Rattle.integers.specs.Tests.{eq_z}
-use Rattle.plane.specs.Basics.{if◌then◌else◌}
 use Rattle.plane.specs.Segment.{intersection}
 use Rattle.plane.specs.Signs.{cross_product_sign}
 use Rattle.plane.specs.Rectangle.{beyond}

@@ -1,9 +1,9 @@
 -- `get_path` in two steps. First every ring is straightened and its result is its start or none; then the rings are read out.
 -- The nodes of a path stand for its points: `points_from` of the definition reads the points of `nodes_from`.
-use Rattle.std.specs.Prelude.{◌≡◌, List, [], ◌∷◌, ◌++◌, map, ℕ, zero, suc, ◌+◌, ◌*◌, ◌≤◌, length, ℤ, eqb}
+use Rattle.std.specs.Prelude.{◌≡◌, List, [], ◌∷◌, ◌++◌, map, ℕ, zero, suc, ◌+◌, ◌*◌, ◌≤◌, length, ℤ, eqb, if◌then◌else◌}
 use Rattle.std.proofs.lemmas.List.Edits.{sets}
 use Rattle.plane.specs.declared.point.Point64.{Point64}
-use Rattle.plane.specs.Basics.{if◌then◌else◌, none}
+use Rattle.plane.specs.Basics.{none}
 use Rattle.plane.specs.Points.{coordinates_of}
 use Rattle.reference.specs.Arena.{Arena, pt_of, next_of, result_of, set_result}
 use Rattle.reference.specs.Clip.{get_path}

@@ -1,7 +1,6 @@
 -- The line clipper's returned paths, read from the lists: where each result starts, how many are returned, and what is written.
-use Rattle.std.specs.Prelude.{◌≡◌, List, ◌++◌, map, ℕ, ◌+◌, ◌-◌, ◌*◌, ◌≤◌, ltb, ℤ, length, take, drop}
+use Rattle.std.specs.Prelude.{◌≡◌, List, ◌++◌, map, ℕ, ◌+◌, ◌-◌, ◌*◌, ◌≤◌, ltb, ℤ, length, take, drop, if◌then◌else◌}
 use Rattle.plane.specs.declared.point.Point64.{Point64}
-use Rattle.plane.specs.Basics.{if◌then◌else◌}
 use Rattle.plane.specs.Points.{points_of, coordinates_of}
 use Rattle.reference.specs.Walk.{Walk}
 use Rattle.reference.specs.Lines.{pieces, longer_than_one}

@@ -1,6 +1,6 @@
 -- What the functions over rings leave in the work list, in the definition's words.
-use Rattle.std.specs.Prelude.{◌≡◌, List, ℕ, ◌+◌, ◌-◌, ◌<◌, ℤ, length, eqb}
-use Rattle.plane.specs.Basics.{if◌then◌else◌, none}
+use Rattle.std.specs.Prelude.{◌≡◌, List, ℕ, ◌+◌, ◌-◌, ◌<◌, ℤ, length, eqb, if◌then◌else◌}
+use Rattle.plane.specs.Basics.{none}
 use Rattle.reference.specs.Arena.{unlink, unlink_op, unlink_op_back}
 use Rattle.reference.specs.Arena as reference
 use Rattle.rectclip.specs.declared.arena.Sizes.{Sizes}

@@ -1,9 +1,8 @@
 -- The scan of `point_in_polygon` as the code has it: its variables and steps, and parts of a pass in functions of their own.
-use Rattle.std.specs.Prelude.{Bool, not, ◌&&◌, ◌||◌, List, ℕ, ◌+◌, ◌-◌, ◌/◌, ◌≤◌, ◌<◌, eqb, length, ℤ, pos}
+use Rattle.std.specs.Prelude.{Bool, not, ◌&&◌, ◌||◌, List, ℕ, ◌+◌, ◌-◌, ◌/◌, ◌≤◌, ◌<◌, eqb, length, ℤ, pos, if◌then◌else◌}
 use Rattle.std.specs.Bool.{beq}
 use Rattle.std.specs.Int.Signed.{lt_z}
 use Rattle.integers.specs.Tests.{eq_z}
-use Rattle.plane.specs.Basics.{if◌then◌else◌}
 use Rattle.plane.specs.Polygon as polygon
 use Rattle.plane.specs.Signs.{cross_product_sign}
 use Rattle.plane.specs.declared.location.PointInPolygonResult.{PointInPolygonResult}

@@ -1,7 +1,7 @@
 -- What the functions of `tidy_edges` ask and leave, in the definition's words.
-use Rattle.std.specs.Prelude.{◌≡◌, Bool, true, not, ◌&&◌, List, ℕ, suc, ◌+◌, ◌*◌, ◌-◌, ◌<◌, ◌≤◌, ℤ, length, get_or, drop, eqb}
+use Rattle.std.specs.Prelude.{◌≡◌, Bool, true, not, ◌&&◌, List, ℕ, suc, ◌+◌, ◌*◌, ◌-◌, ◌<◌, ◌≤◌, ℤ, length, get_or, drop, eqb, if◌then◌else◌}
 use Rattle.plane.specs.declared.point.Point64.{Point64}
-use Rattle.plane.specs.Basics.{if◌then◌else◌, none, push, Try, refuse, ok, ◌>>=◌}
+use Rattle.plane.specs.Basics.{none, push, Try, refuse, ok, ◌>>=◌}
 use Rattle.reference.specs.Arena.{Arena, owner_of, edge_list, set_entry, set_result, set_results, set_new_owner}
 use Rattle.reference.specs.Tidy.{is_stub, seek, turn, turns_from, tidy_edges}
 use Rattle.reference.specs.Tidy as reference

@@ -1,10 +1,10 @@
 -- The walk in the lent lists: which part of them is the walk, what every step keeps, and what a step answers.
-use Rattle.std.specs.Prelude.{◌≡◌, List, map, ℕ, zero, suc, ◌+◌, ◌*◌, ◌/◌, ◌<◌, ◌≤◌, length, take, ℤ, Bool, true, false}
+use Rattle.std.specs.Prelude.{◌≡◌, List, map, ℕ, zero, suc, ◌+◌, ◌*◌, ◌/◌, ◌<◌, ◌≤◌, length, take, ℤ, Bool, true, false, if◌then◌else◌}
 use Rattle.plane.specs.declared.point.Point64.{Point64}
 use Rattle.plane.specs.declared.location.Location.{Location}
 use Rattle.plane.specs.declared.location.Location.TheVariants.{Left, Top, Right, Bottom, Inside}
 use Rattle.plane.specs.declared.rect.Rect64.{Rect64}
-use Rattle.plane.specs.Basics.{if◌then◌else◌, Try, refuse, ok}
+use Rattle.plane.specs.Basics.{Try, refuse, ok}
 use Rattle.plane.specs.Limit.{all_in_limit, rect_in_limit}
 use Rattle.plane.specs.Locations.{get_adjacent_location}
 use Rattle.plane.specs.Points.{pt_at, points_of}

@@ -1,7 +1,6 @@
 // Whether a point is in a polygon: `point_in_polygon` of core.rs, and `path1_contains_path2`.
-ghost use Rattle.std.specs.Prelude.{◌≡◌, ◌*◌, ◌+◌, ◌-◌, ◌/◌, ◌≤◌, ◌<◌, eqb, pos, nat_abs, length};
+ghost use Rattle.std.specs.Prelude.{◌≡◌, ◌*◌, ◌+◌, ◌-◌, ◌/◌, ◌≤◌, ◌<◌, eqb, pos, nat_abs, length, if◌then◌else◌};
 ghost use Rattle.std.specs.Int.Signed.{lt_z};
-ghost use Rattle.plane.specs.Basics.{if◌then◌else◌};
 ghost use Rattle.plane.specs.Points.{points_of};
 ghost use Rattle.plane.specs.Polygon.{first_off, skipped, at_vertex, scan_pass, scan_answer, scan_loop, point_in_polygon, counted, contains_from, path1_contains_path2};
 ghost use Rattle.rectclip.specs.Bounds.{Turn, Vertices, BothPaths};

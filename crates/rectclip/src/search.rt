@@ -1,8 +1,7 @@
 // The crossing of a segment with an edge of the rectangle, and the search over the edges: `get_segment_intersection` and `get_intersection`.
 ghost use Rattle.std.specs.Bool.{beq};
-ghost use Rattle.std.specs.Prelude.{◌≡◌};
+ghost use Rattle.std.specs.Prelude.{◌≡◌, if◌then◌else◌};
 ghost use Rattle.std.specs.Int.Signed.{lt_z};
-ghost use Rattle.plane.specs.Basics.{if◌then◌else◌};
 ghost use Rattle.plane.specs.Limit.{AllLimited};
 ghost use Rattle.plane.specs.Intersection.{at_end, get_segment_intersection, edge_from, edge_to, edge_intersection, side_intersection, get_intersection};
 ghost use Rattle.plane.specs.Points.{pt_at};

@@ -1,6 +1,5 @@
 // `tidy_edges`: rings split and rejoined along a side, turn by turn.
-ghost use Rattle.std.specs.Prelude.{◌≡◌, ◌<◌, ◌-◌, ◌*◌, ltb, length, get_or};
-ghost use Rattle.plane.specs.Basics.{if◌then◌else◌};
+ghost use Rattle.std.specs.Prelude.{◌≡◌, ◌<◌, ◌-◌, ◌*◌, ltb, length, get_or, if◌then◌else◌};
 ghost use Rattle.reference.specs.Tidy.{rejoin, one_turn, turn, turns_from, tidy_edges};
 ghost use Rattle.rectclip.specs.Arenas.{arena_at};
 ghost use Rattle.rectclip.specs.Stored.{points_in};

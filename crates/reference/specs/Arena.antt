@@ -1,8 +1,8 @@
 -- `RectClip64`'s arena, results and edge lists, and what `check_edges` does to them.
-use Rattle.std.specs.Prelude.{Bool, not, ◌&&◌, ◌||◌, List, [], ◌∷◌, ℕ, zero, suc, ◌+◌, ◌-◌, ◌*◌, length, get_or, set, replicate, eqb}
+use Rattle.std.specs.Prelude.{Bool, not, ◌&&◌, ◌||◌, List, [], ◌∷◌, ℕ, zero, suc, ◌+◌, ◌-◌, ◌*◌, length, get_or, set, replicate, eqb, if◌then◌else◌}
 use Rattle.plane.specs.declared.point.Point64.{Point64}
 use Rattle.plane.specs.declared.rect.Rect64.{Rect64}
-use Rattle.plane.specs.Basics.{if◌then◌else◌, none, push, upwards}
+use Rattle.plane.specs.Basics.{none, push, upwards}
 use Rattle.plane.specs.Points.{pt_at}
 use Rattle.plane.specs.Locations.{side}
 use Rattle.plane.specs.Signs.{is_collinear, is_heading_clockwise}

@@ -1,8 +1,8 @@
 -- `RectClip64::get_path`, and `execute` for one closed path.
-use Rattle.std.specs.Prelude.{Bool, not, ◌||◌, List, [], ◌∷◌, ℕ, zero, suc, length, eqb, ltb}
+use Rattle.std.specs.Prelude.{Bool, not, ◌||◌, List, [], ◌∷◌, ℕ, zero, suc, length, eqb, ltb, if◌then◌else◌}
 use Rattle.plane.specs.declared.point.Point64.{Point64}
 use Rattle.plane.specs.declared.rect.Rect64.{Rect64}
-use Rattle.plane.specs.Basics.{if◌then◌else◌, none, is_nil, upwards, Try, ok, ◌>>=◌}
+use Rattle.plane.specs.Basics.{none, is_nil, upwards, Try, ok, ◌>>=◌}
 use Rattle.plane.specs.Rectangle.{is_empty, intersects, contains_rect, get_bounds_path}
 use Rattle.reference.specs.Walk.{Walked, walk_closed}
 use Rattle.reference.specs.Arena.{Arena, pt_of, next_of, prev_of, result_of, set_result, ring, add_to_edge, unlink, unlink_op, is_flat, Round, check_edges}

@@ -1,8 +1,7 @@
 -- The twelve reference drawings of document 01 as one table: what the entries answer, and what the two lists to fill hold afterwards.
 -- Rows 1 and 2 are the clip program's example too. One theorem, by computation.
-use Rattle.std.specs.Prelude.{◌≡◌, refl, Bool, true, false, List, [], ◌∷◌, ◌++◌, map, ℕ, replicate, ℤ, pos, neg_ℤ}
+use Rattle.std.specs.Prelude.{◌≡◌, refl, Bool, true, false, List, [], ◌∷◌, ◌++◌, map, ℕ, replicate, ℤ, pos, neg_ℤ, if◌then◌else◌}
 use Rattle.plane.specs.declared.rect.Rect64.{Rect64}
-use Rattle.plane.specs.Basics.{if◌then◌else◌}
 use Rattle.plane.specs.Intersection.{at_end, get_segment_intersection, edge_intersection, side_intersection, get_intersection}
 use Rattle.plane.specs.Locations.{start_locs_are_clockwise}
 use Rattle.plane.specs.Polygon.{at_vertex, scan_pass, scan_answer, scan_loop, point_in_polygon, path1_contains_path2}

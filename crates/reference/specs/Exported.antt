@@ -1,8 +1,8 @@
 -- The exported entries of document 01: 'little-endian signed 32-bit coordinates as bytes, with W = A = 256 and paths up to 128 points'.
 -- 'Coordinates and path lengths come back in two lent byte lists, 4 little-endian bytes a number, and paths, points and turns likewise in a third'.
-use Rattle.std.specs.Prelude.{Bool, not, ◌||◌, List, [], ◌∷◌, ◌++◌, map, ℕ, suc, ◌+◌, ◌-◌, ◌*◌, ◌/◌, ◌%◌, ◌^◌, length, eqb, ltb, ℤ, pos, negsuc, ◌-ℤ◌}
+use Rattle.std.specs.Prelude.{Bool, not, ◌||◌, List, [], ◌∷◌, ◌++◌, map, ℕ, suc, ◌+◌, ◌-◌, ◌*◌, ◌/◌, ◌%◌, ◌^◌, length, eqb, ltb, ℤ, pos, negsuc, ◌-ℤ◌, if◌then◌else◌}
 use Rattle.plane.specs.declared.rect.Rect64.{Rect64}
-use Rattle.plane.specs.Basics.{if◌then◌else◌, refuse, ok}
+use Rattle.plane.specs.Basics.{refuse, ok}
 use Rattle.plane.specs.Points.{points_of, coordinates_of}
 use Rattle.reference.specs.Walk.{no_room}
 use Rattle.reference.specs.Entry.{Drawing, joined, drawing_of, sheet_refusal, filled}

@@ -1,9 +1,9 @@
 -- `tidy_edges`, with its turns counted.
-use Rattle.std.specs.Prelude.{Bool, not, ◌&&◌, ◌||◌, List, [], ◌∷◌, ℕ, zero, suc, ◌+◌, ◌-◌, ◌*◌, length, get_or, drop, eqb, ltb, leb}
+use Rattle.std.specs.Prelude.{Bool, not, ◌&&◌, ◌||◌, List, [], ◌∷◌, ℕ, zero, suc, ◌+◌, ◌-◌, ◌*◌, length, get_or, drop, eqb, ltb, leb, if◌then◌else◌}
 use Rattle.std.specs.Bool.{beq}
 use Rattle.std.specs.Int.Signed.{lt_z}
 use Rattle.plane.specs.declared.point.Point64.{Point64}
-use Rattle.plane.specs.Basics.{if◌then◌else◌, none, push, Try, refuse, ok}
+use Rattle.plane.specs.Basics.{none, push, Try, refuse, ok}
 use Rattle.plane.specs.Points.{same_point}
 use Rattle.plane.specs.Signs.{has_horz_overlap, has_vert_overlap}
 use Rattle.reference.specs.Arena.{Arena, pt_of, owner_of, next_of, prev_of, edge_list, set_next, set_prev, set_results, set_result, set_entry, add_to_edge, uncouple_edge, set_new_owner}

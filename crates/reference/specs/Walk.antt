@@ -1,5 +1,5 @@
 -- The walks of `RectClip64::execute_internal` and `RectClipLines64::execute_internal`, over a rectangle and a path alone.
-use Rattle.std.specs.Prelude.{Bool, false, not, ◌&&◌, ◌||◌, List, [], ◌∷◌, ℕ, zero, suc, ◌+◌, ◌-◌, ◌*◌, length, drop, ltb, leb}
+use Rattle.std.specs.Prelude.{Bool, false, not, ◌&&◌, ◌||◌, List, [], ◌∷◌, ℕ, zero, suc, ◌+◌, ◌-◌, ◌*◌, length, drop, ltb, leb, if◌then◌else◌}
 use Rattle.plane.specs.declared.point.Point64.{Point64}
 use Rattle.plane.specs.declared.rect.Rect64.{Rect64}
 use Rattle.plane.specs.declared.location.Location.{Location}
@@ -7,7 +7,7 @@ use Rattle.plane.specs.declared.location.Location.TheVariants.{Left, Top, Right,
 use Rattle.plane.specs.declared.crossing.Search.{Search}
 use Rattle.plane.specs.declared.crossing.Search.TheVariants.{Missed, Found}
 use Rattle.plane.specs.declared.crossing.SidePoint.{SidePoint}
-use Rattle.plane.specs.Basics.{if◌then◌else◌, push, is_nil, lead, Try, refuse, ok, ◌>>=◌}
+use Rattle.plane.specs.Basics.{push, is_nil, lead, Try, refuse, ok, ◌>>=◌}
 use Rattle.plane.specs.Locations.{is_inside, same_location, side, opposite, lower, upper, get_adjacent_location, heading_clockwise, start_locs_are_clockwise}
 use Rattle.plane.specs.Points.{pt_at, same_point}
 use Rattle.plane.specs.Rectangle.{as_path, mid_point, contains_point, get_bounds_path, get_location, corner, beyond, beyond_or_on}

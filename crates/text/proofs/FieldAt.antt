@@ -1,4 +1,5 @@
 -- The field that begins at a position of a line: what its digits, its minus and its end make of it. Assumes nothing.
+use Rattle.std.specs.Prelude.{if◌then◌else◌}
 use mathlib.Core.Path.{◌≡◌, refl, sym, ◌∙◌, ap, subst}
 use mathlib.Core.Bool.{Bool, true, false, not, ◌||◌}
 use mathlib.Core.List.{List, [], ◌∷◌}
@@ -12,7 +13,7 @@ use lib.IntN.{ℤ, pos, neg_ℤ}
 use borrow.Author.Tests.{ne_eqb, leb-true}
 use mir.Syntax.{w64}
 use mir.Val.{SFits}
-use Rattle.plane.specs.Basics.{if◌then◌else◌, is_nil}
+use Rattle.plane.specs.Basics.{is_nil}
 use Rattle.text.specs.declared.digits.Spelling.{Spelling}
 use Rattle.text.specs.declared.number.Entry.TheVariants.{Missing}
 use Rattle.text.specs.Decimal.{Field, no_number, number, field, digits_of, all_digits, value_from}

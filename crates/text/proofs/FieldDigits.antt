@@ -1,4 +1,5 @@
 -- A field's digits as the loop reads them are the field of the definition: the bytes before the next comma. Assumes nothing.
+use Rattle.std.specs.Prelude.{if◌then◌else◌}
 use mathlib.Core.Path.{◌≡◌, refl, sym, ◌∙◌, ap}
 use mathlib.Core.Bool.{Bool, true, false, ◌&&◌}
 use mathlib.Core.List.{List, [], ◌∷◌}
@@ -8,7 +9,7 @@ use lib.ListN.{length, drop}
 use lib.Dec.{eqb, leb, ltb}
 use lib.IntN.{ℤ, pos, neg_ℤ}
 use borrow.Author.Tests.{leb-true, leb-false, ltb-true, ltb-false, lt-ltb, le-ltb, lt-leb, ne_eqb}
-use Rattle.plane.specs.Basics.{if◌then◌else◌, is_nil}
+use Rattle.plane.specs.Basics.{is_nil}
 use Rattle.text.specs.Decimal.{no_number, number, digits_of, is_digit, all_digits, value_from}
 use Rattle.text.specs.Scanning.{CAP, digit_step, Digit, spell, front, ends_at, entry_of, signed_entry, digits_entry}
 use Rattle.text.specs.declared.number.Entry.TheVariants.{Missing, Whole}

@@ -1,4 +1,5 @@
 -- The loops over a line's fields are the definition's `fields` and `numbers`, a field at a time. Assumes nothing.
+use Rattle.std.specs.Prelude.{if◌then◌else◌}
 use mathlib.Core.Path.{◌≡◌, refl, sym, ◌∙◌, ap}
 use mathlib.Core.Bool.{Bool, true, false}
 use mathlib.Core.List.{List, [], ◌∷◌}
@@ -11,7 +12,7 @@ use lib.Dec.{eqb}
 use lib.IntN.{ℤ}
 use mir.Syntax.{w64}
 use mir.Val.{SFits}
-use Rattle.plane.specs.Basics.{if◌then◌else◌, Try, refuse, ok, ◌>>=◌}
+use Rattle.plane.specs.Basics.{Try, refuse, ok, ◌>>=◌}
 use Rattle.text.specs.declared.number.Entry.TheVariants.{Missing, Whole}
 use Rattle.text.specs.declared.fields.Numbers.TheVariants.{Unreadable, Count}
 use Rattle.text.specs.Decimal.{Field, no_number, number, field}

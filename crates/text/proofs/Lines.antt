@@ -1,4 +1,5 @@
 -- A line's letter and the numbers behind it are the definition's `request`. Assumes nothing.
+use Rattle.std.specs.Prelude.{if◌then◌else◌}
 use mathlib.Core.Path.{◌≡◌, refl, sym, ◌∙◌, ap, subst}
 use mathlib.Core.Bool.{Bool, true, false}
 use mathlib.Core.List.{List, [], ◌∷◌}
@@ -9,7 +10,7 @@ use lib.Dec.{eqb}
 use lib.IntN.{ℤ, pos}
 use lib.Seq.{sets}
 use borrow.Author.Tests.{eqb-true, eq-eqb, ne_eqb, lt-ltb, le-ltb}
-use Rattle.plane.specs.Basics.{if◌then◌else◌, Try, refuse, ok, ◌>>=◌}
+use Rattle.plane.specs.Basics.{Try, refuse, ok, ◌>>=◌}
 use Rattle.plane.specs.Rectangle.{rect}
 use Rattle.text.specs.declared.fields.Numbers.TheVariants.{Count}
 use Rattle.text.specs.declared.fields.Numbers.TheVariants as counts

@@ -1,4 +1,5 @@
 -- Bytes put one after another: numbers, each with a comma before it, and whole lines. Assumes nothing.
+use Rattle.std.specs.Prelude.{if◌then◌else◌}
 use mathlib.Core.Path.{◌≡◌, refl, sym, ◌∙◌, ap, subst}
 use mathlib.Core.Bool.{Bool, true, false}
 use mathlib.Core.List.{List, [], ◌∷◌, ◌++◌, append_assoc}
@@ -11,7 +12,6 @@ use lib.IntN.{ℤ, pos, negsuc, nat_abs}
 use lib.Signed.{lt_z}
 use lib.Seq.{sets, length-sets, drop-cons}
 use borrow.Author.Tests.{ltb-true, le-leb, lt-leb, leb-true, leb-false}
-use Rattle.plane.specs.Basics.{if◌then◌else◌}
 use Rattle.text.specs.declared.numbers.Room.TheVariants.{Full, Left}
 use Rattle.text.specs.Decimal.{decimal, signed_decimal, last_digits}
 use Rattle.text.specs.Printing.{comma_numbers, line_of}

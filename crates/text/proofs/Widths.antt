@@ -1,4 +1,5 @@
 -- How many bytes a printed line takes at most. Assumes nothing.
+use Rattle.std.specs.Prelude.{if◌then◌else◌}
 use mathlib.Core.Path.{◌≡◌, refl}
 use mathlib.Core.Bool.{Bool, true, false}
 use mathlib.Core.List.{List, [], ◌∷◌, Memᴰ}
@@ -9,7 +10,6 @@ use lib.ListN.{length, length-append}
 use lib.Dec.{leb}
 use lib.IntN.{ℤ, pos, negsuc, nat_abs}
 use borrow.Author.Tests.{leb-true, leb-false}
-use Rattle.plane.specs.Basics.{if◌then◌else◌}
 use Rattle.plane.specs.Points.{coordinates_of}
 use Rattle.plane.specs.declared.point.Point64.{Point64}
 use Rattle.text.specs.Decimal.{places, decimal, signed_decimal}

@@ -1,7 +1,7 @@
 -- Decimal numbers as bytes, as document 01's clip program reads and prints them: 'an optional minus and digits', fitting 64 signed bits;
 -- 'printed without leading zeros, and zero without a minus'.
-use Rattle.std.specs.Prelude.{Bool, true, false, not, ◌&&◌, ◌||◌, List, [], ◌∷◌, ◌++◌, ℕ, zero, suc, ◌+◌, ◌-◌, ◌*◌, ◌/◌, ◌%◌, ◌^◌, eqb, leb, ℤ, pos, negsuc, neg_ℤ}
-use Rattle.plane.specs.Basics.{if◌then◌else◌, is_nil}
+use Rattle.std.specs.Prelude.{Bool, true, false, not, ◌&&◌, ◌||◌, List, [], ◌∷◌, ◌++◌, ℕ, zero, suc, ◌+◌, ◌-◌, ◌*◌, ◌/◌, ◌%◌, ◌^◌, eqb, leb, ℤ, pos, negsuc, neg_ℤ, if◌then◌else◌}
+use Rattle.plane.specs.Basics.{is_nil}
 
 -- ---- reading
 abbrev pub is_digit : ℕ → Bool

@@ -1,7 +1,6 @@
 -- What the clip program prints: 'the R line, then for each returned path: kind, input line (from 1), number of points, coordinates.
 -- A refusal prints X,line,number.' Lines end with a line feed, 10.
-use Rattle.std.specs.Prelude.{Bool, List, [], ◌∷◌, ◌++◌, ℕ, length, ℤ, pos}
-use Rattle.plane.specs.Basics.{if◌then◌else◌}
+use Rattle.std.specs.Prelude.{Bool, List, [], ◌∷◌, ◌++◌, ℕ, length, ℤ, pos, if◌then◌else◌}
 use Rattle.plane.specs.Points.{coordinates_of}
 use Rattle.plane.specs.declared.point.Point64.{Point64}
 use Rattle.plane.specs.declared.rect.Rect64.{Rect64}

@@ -1,7 +1,6 @@
 -- What the private functions that write a line answer. The definitions that the public ones cite are in Decimal, Printing and Written.
-use Rattle.std.specs.Prelude.{◌≡◌, List, ℕ, ◌+◌, ◌-◌, ◌≤◌, length, leb}
+use Rattle.std.specs.Prelude.{◌≡◌, List, ℕ, ◌+◌, ◌-◌, ◌≤◌, length, leb, if◌then◌else◌}
 use Rattle.std.proofs.lemmas.List.Edits.{sets}
-use Rattle.plane.specs.Basics.{if◌then◌else◌}
 use Rattle.text.specs.declared.numbers.Room.{Room}
 use Rattle.text.specs.declared.numbers.Room.TheVariants.{Full, Left}
 use Rattle.text.specs.Decimal.{places}

@@ -1,6 +1,6 @@
 -- What a line of the clip program's input asks, of document 01's section 'The clip program'. A line is its bytes, line feed left out.
-use Rattle.std.specs.Prelude.{Bool, true, false, List, [], ◌∷◌, ℕ, length, eqb, ltb, ℤ}
-use Rattle.plane.specs.Basics.{if◌then◌else◌, Try, refuse, ok, ◌>>=◌}
+use Rattle.std.specs.Prelude.{Bool, true, false, List, [], ◌∷◌, ℕ, length, eqb, ltb, ℤ, if◌then◌else◌}
+use Rattle.plane.specs.Basics.{Try, refuse, ok, ◌>>=◌}
 use Rattle.plane.specs.Rectangle.{rect}
 use Rattle.plane.specs.declared.rect.Rect64.{Rect64}
 use Rattle.text.specs.Decimal.{no_number, number, field}

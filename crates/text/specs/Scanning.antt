@@ -1,6 +1,6 @@
 -- What the private functions that read a line answer, step by step. The definitions that the public ones cite are in Decimal and Reading.
-use Rattle.std.specs.Prelude.{◌≡◌, Bool, true, List, [], ◌∷◌, ℕ, ◌+◌, ◌-◌, ◌*◌, ◌≤◌, length, drop, eqb, leb, ltb, ℤ, pos, neg_ℤ}
-use Rattle.plane.specs.Basics.{if◌then◌else◌, Try, refuse, ok}
+use Rattle.std.specs.Prelude.{◌≡◌, Bool, true, List, [], ◌∷◌, ℕ, ◌+◌, ◌-◌, ◌*◌, ◌≤◌, length, drop, eqb, leb, ltb, ℤ, pos, neg_ℤ, if◌then◌else◌}
+use Rattle.plane.specs.Basics.{Try, refuse, ok}
 use Rattle.text.specs.declared.digits.Spelling.{Spelling}
 use Rattle.text.specs.declared.number.Entry.{Entry}
 use Rattle.text.specs.declared.number.Entry.TheVariants.{Missing, Whole}

@@ -1,7 +1,6 @@
 -- What the functions that write a line promise: the line at the front of the lent list and the rest as it came, where the list can hold the line.
-use Rattle.std.specs.Prelude.{◌≡◌, refl, Bool, List, [], ◌∷◌, ◌++◌, ℕ, ◌+◌, ◌/◌, ◌≤◌, length, drop, leb, ℤ, pos}
+use Rattle.std.specs.Prelude.{◌≡◌, refl, Bool, List, [], ◌∷◌, ◌++◌, ℕ, ◌+◌, ◌/◌, ◌≤◌, length, drop, leb, ℤ, pos, if◌then◌else◌}
 use Rattle.std.proofs.Common.{ap, arith}
-use Rattle.plane.specs.Basics.{if◌then◌else◌}
 use Rattle.plane.specs.Points.{coordinates_of}
 use Rattle.plane.specs.declared.point.Point64.{Point64}
 use Rattle.text.specs.Printing.{line_of, path_line}

@@ -1,5 +1,6 @@
 -- What is known in every pass of both walks: the point before the one at which `get_next_location` stops is in the region of the location that the
 -- pass comes from. So what follows of that holds in every pass of a call.
+use Rattle.std.specs.Prelude.{if◌then◌else◌}
 use mathlib.Core.Path.{◌≡◌, refl, sym, ◌∙◌, ap, subst}
 use mathlib.Core.Bool.{Bool, true, false}
 use mathlib.Core.Logic.{◌⊎◌, inl, inr}
@@ -13,7 +14,7 @@ use Rattle.integers.specs.Tests.{T_of, T_not_of}
 use Rattle.plane.specs.declared.point.Point64.{Point64}
 use Rattle.plane.specs.declared.rect.Rect64.{Rect64}
 use Rattle.plane.specs.declared.location.Location.{Location}
-use Rattle.plane.specs.Basics.{if◌then◌else◌, ok}
+use Rattle.plane.specs.Basics.{ok}
 use Rattle.plane.specs.Limit.{Limited, LimitedRect}
 use Rattle.plane.specs.Points.{origin, pt_at}
 use Rattle.plane.specs.Locations.{is_inside}

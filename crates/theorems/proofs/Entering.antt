@@ -1,5 +1,6 @@
 -- Entering the rectangle finds a side: from a point strictly inside, the search toward a point on or beyond a side cannot miss.
 -- So the premise `EntryFound` of the area equation holds within the coordinate limit.
+use Rattle.std.specs.Prelude.{if◌then◌else◌}
 use mathlib.Core.Path.{◌≡◌, refl, sym, ◌∙◌, ap}
 use mathlib.Core.Bool.{Bool, true, false, cond}
 use mathlib.Core.List.{List}
@@ -19,7 +20,6 @@ use Rattle.plane.specs.declared.location.Location.{Location}
 use Rattle.plane.specs.declared.location.Location.TheVariants.{Left, Top, Right, Bottom, Inside}
 use Rattle.plane.specs.declared.crossing.Search.{Search}
 use Rattle.plane.specs.declared.crossing.Search.TheVariants.{Missed, Found}
-use Rattle.plane.specs.Basics.{if◌then◌else◌}
 use Rattle.plane.specs.Points.{origin, pt_at, points_of}
 use Rattle.plane.specs.Rectangle.{is_empty, beyond_or_on}
 use Rattle.plane.specs.Intersection.{get_intersection}

@@ -1,4 +1,5 @@
 -- The number of turns is at most the allowance, and each turn adds at most one result to the one that the walk leaves.
+use Rattle.std.specs.Prelude.{if◌then◌else◌}
 use mathlib.Core.Path.{◌≡◌, refl, ◌∙◌, ap, subst}
 use mathlib.Core.Bool.{Bool, true, false, cond, not, ◌||◌}
 use mathlib.Core.List.{List, [], ◌∷◌}
@@ -8,7 +9,7 @@ use lib.ListN.{length, get_or, drop, length-set, length-append}
 use lib.Dec.{eqb, ltb, leb, lit≤}
 use Rattle.plane.specs.declared.point.Point64.{Point64}
 use Rattle.plane.specs.declared.rect.Rect64.{Rect64}
-use Rattle.plane.specs.Basics.{if◌then◌else◌, none, push, is_nil, upwards, ◌>>=◌}
+use Rattle.plane.specs.Basics.{none, push, is_nil, upwards, ◌>>=◌}
 use Rattle.plane.specs.Rectangle.{is_empty, intersects, contains_rect, get_bounds_path, get_edges_for_pt}
 use Rattle.reference.specs.Walk.{Walked, walk_closed}
 use Rattle.reference.specs.Arena.{Arena, add_to_edge, pt_of, prev_of, owner_of, edge_list, result_of, set_next, set_prev, set_results, set_result, set_edge_list, ring, is_flat, Round, drop_collinear_pass, drop_collinear, check_ring, check_from, check_edges}

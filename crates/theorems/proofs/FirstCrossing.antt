@@ -1,4 +1,5 @@
 -- Once the walk has found a crossing, its first crossing is a side.
+use Rattle.std.specs.Prelude.{if◌then◌else◌}
 use mathlib.Core.Path.{◌≡◌, refl, subst}
 use mathlib.Core.Bool.{Bool, true, false, cond, not, ◌&&◌}
 use mathlib.Core.List.{List, []}
@@ -16,7 +17,7 @@ use Rattle.plane.specs.declared.rect.Rect64.{Rect64}
 use Rattle.plane.specs.declared.location.Location.{Location}
 use Rattle.plane.specs.declared.location.Location.TheVariants.{Left, Top, Right, Bottom, Inside}
 use Rattle.plane.specs.declared.crossing.Search.TheVariants.{Missed, Found}
-use Rattle.plane.specs.Basics.{if◌then◌else◌, ok}
+use Rattle.plane.specs.Basics.{ok}
 use Rattle.plane.specs.declared.location.Spot.{Spot}
 use Rattle.plane.specs.Points.{pt_at, same_point}
 use Rattle.plane.specs.Locations.{same_location, lower, upper, get_adjacent_location, is_inside}

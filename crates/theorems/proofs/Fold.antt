@@ -1,4 +1,5 @@
 -- The closed walk without a count: by recursion on the points, each of which is met once. The loop of the definitions, with its count, is this fold.
+use Rattle.std.specs.Prelude.{if◌then◌else◌}
 use mathlib.Core.Path.{◌≡◌, refl, sym, ◌∙◌, ap, subst}
 use mathlib.Core.Bool.{Bool, true, false, cond}
 use mathlib.Core.List.{List, [], ◌∷◌}
@@ -16,7 +17,7 @@ use Rattle.plane.specs.declared.location.Location.{Location}
 use Rattle.plane.specs.declared.location.Location.TheVariants.{Left, Top, Right, Bottom, Inside}
 use Rattle.plane.specs.declared.crossing.Search.{Search}
 use Rattle.plane.specs.declared.crossing.Search.TheVariants.{Missed, Found}
-use Rattle.plane.specs.Basics.{if◌then◌else◌, lead, Try, refuse, ok, ◌>>=◌}
+use Rattle.plane.specs.Basics.{lead, Try, refuse, ok, ◌>>=◌}
 use Rattle.plane.specs.Points.{origin, pt_at}
 use Rattle.plane.specs.Locations.{same_location, is_inside}
 use Rattle.plane.specs.Rectangle.{beyond_or_on}

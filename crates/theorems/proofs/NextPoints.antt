@@ -1,4 +1,5 @@
 -- What `get_next_location` goes past, and where it stops.
+use Rattle.std.specs.Prelude.{if◌then◌else◌}
 use mathlib.Core.Path.{◌≡◌, refl, sym, ◌∙◌, ap, subst}
 use mathlib.Core.Bool.{Bool, true, false, cond}
 use mathlib.Core.List.{List, [], ◌∷◌}
@@ -15,7 +16,7 @@ use Rattle.plane.specs.declared.point.Point64.{Point64}
 use Rattle.plane.specs.declared.rect.Rect64.{Rect64}
 use Rattle.plane.specs.declared.location.Location.{Location}
 use Rattle.plane.specs.declared.location.Location.TheVariants.{Left, Top, Right, Bottom, Inside}
-use Rattle.plane.specs.Basics.{if◌then◌else◌, lead, Try, refuse, ok}
+use Rattle.plane.specs.Basics.{lead, Try, refuse, ok}
 use Rattle.plane.specs.Points.{origin, pt_at}
 use Rattle.plane.specs.Rectangle.{beyond, beyond_or_on}
 use Rattle.reference.specs.Walk.{Walk, add, Next, next_side, next_outside, next_inside, get_next_location}

@@ -1,4 +1,5 @@
 -- The passes of both walks are enough: a pass that leaves i where it was leaves the walk at a location whose region has the point, so the next pass goes past it. Wherever the walk starts.
+use Rattle.std.specs.Prelude.{if◌then◌else◌}
 use mathlib.Core.Path.{◌≡◌, refl, sym, ap, subst, ◌∙◌}
 use mathlib.Core.Bool.{Bool, true, false, cond, not, ◌&&◌, ◌||◌}
 use mathlib.Core.Logic.{◌⊎◌, inl, inr}
@@ -19,7 +20,7 @@ use Rattle.plane.specs.declared.location.Spot.{Spot}
 use Rattle.plane.specs.declared.location.Location.{Location}
 use Rattle.plane.specs.declared.location.Location.TheVariants.{Inside}
 use Rattle.plane.specs.declared.crossing.Search.TheVariants.{Found}
-use Rattle.plane.specs.Basics.{if◌then◌else◌, ok, ◌>>=◌}
+use Rattle.plane.specs.Basics.{ok, ◌>>=◌}
 use Rattle.plane.specs.Points.{origin, pt_at, same_point, points_of}
 use Rattle.plane.specs.Locations.{same_location, is_inside}
 use Rattle.plane.specs.Rectangle.{mid_point, get_location}

@@ -1,5 +1,6 @@
 -- Every point that a walk puts down is an input point in or on the rectangle, a corner, or what a search for a crossing finds. Over any property P
 -- of points, and any property K of walks that putting down such points keeps.
+use Rattle.std.specs.Prelude.{if◌then◌else◌}
 use mathlib.Core.Path.{◌≡◌, refl, sym, subst}
 use mathlib.Core.Bool.{Bool, true, false, cond, not, ◌&&◌, ◌||◌}
 use mathlib.Core.List.{List, [], ◌∷◌}
@@ -14,7 +15,7 @@ use Rattle.plane.specs.declared.rect.Rect64.{Rect64}
 use Rattle.plane.specs.declared.location.Location.{Location}
 use Rattle.plane.specs.declared.location.Location.TheVariants.{Left, Top, Right, Bottom, Inside}
 use Rattle.plane.specs.declared.crossing.Search.TheVariants.{Missed, Found}
-use Rattle.plane.specs.Basics.{if◌then◌else◌, is_nil, ok, ◌>>=◌}
+use Rattle.plane.specs.Basics.{is_nil, ok, ◌>>=◌}
 use Rattle.plane.specs.Locations.{side, same_location, get_adjacent_location, heading_clockwise, is_inside}
 use Rattle.plane.specs.Points.{pt_at, origin, same_point}
 use Rattle.plane.specs.Rectangle.{get_location, mid_point, contains_point, get_bounds_path, as_path, corner, beyond}

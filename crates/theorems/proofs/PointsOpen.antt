@@ -1,4 +1,5 @@
 -- The same for the line clipper: its walk, and its returned points.
+use Rattle.std.specs.Prelude.{if◌then◌else◌}
 use mathlib.Core.Path.{◌≡◌, refl}
 use mathlib.Core.Bool.{Bool, true, false, cond, not}
 use mathlib.Core.List.{List, [], ◌∷◌}
@@ -12,7 +13,7 @@ use Rattle.plane.specs.declared.rect.Rect64.{Rect64}
 use Rattle.plane.specs.declared.location.Location.{Location}
 use Rattle.plane.specs.declared.location.Location.TheVariants.{Left, Top, Right, Bottom, Inside}
 use Rattle.plane.specs.declared.crossing.Search.TheVariants.{Missed, Found}
-use Rattle.plane.specs.Basics.{if◌then◌else◌, lead, ok, ◌>>=◌}
+use Rattle.plane.specs.Basics.{lead, ok, ◌>>=◌}
 use Rattle.plane.specs.Points.{pt_at, origin}
 use Rattle.plane.specs.Rectangle.{get_location, get_bounds_path, is_empty, intersects, beyond, beyond_or_on}
 use Rattle.plane.specs.Intersection.{get_intersection}

@@ -1,4 +1,5 @@
 -- Every returned point is a walked point: what holds of all walked points holds of all returned ones.
+use Rattle.std.specs.Prelude.{if◌then◌else◌}
 use mathlib.Core.Path.{◌≡◌, refl, sym, subst}
 use mathlib.Core.Bool.{Bool, true, false, cond, not, ◌&&◌, ◌||◌}
 use mathlib.Core.List.{List, [], ◌∷◌, ◌++◌}
@@ -11,7 +12,7 @@ use Rattle.plane.specs.declared.point.Point64.{Point64}
 use Rattle.plane.specs.declared.rect.Rect64.{Rect64}
 use Rattle.plane.specs.declared.location.Location.{Location}
 use Rattle.plane.specs.declared.location.Location.TheVariants.{Inside}
-use Rattle.plane.specs.Basics.{if◌then◌else◌, none, is_nil, ok, ◌>>=◌}
+use Rattle.plane.specs.Basics.{none, is_nil, ok, ◌>>=◌}
 use Rattle.plane.specs.Locations.{side, same_location, heading_clockwise, is_inside}
 use Rattle.plane.specs.Points.{pt_at, same_point}
 use Rattle.plane.specs.Rectangle.{get_location, mid_point, contains_point, get_bounds_path, as_path, corner}

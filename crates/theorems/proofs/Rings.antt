@@ -1,5 +1,6 @@
 -- The rings theorem: what the walk leaves is one ring, and `check_edges` and every turn of `tidy_edges` keep rings rings, with their owners,
 -- results and edge entries. The invariant of `tidy_edges` in the words of specs/Rings.antt.
+use Rattle.std.specs.Prelude.{if◌then◌else◌}
 use mathlib.Core.Path.{◌≡◌, refl, sym, ◌∙◌, ap, subst, subst₂}
 use mathlib.Core.Bool.{Bool, true, false, not}
 use mathlib.Core.Logic.{◌⊎◌, inl, inr}
@@ -13,7 +14,7 @@ use native.Mathlib.Omega.{arith}
 use native.Mathlib.Decide.{dec_lt}
 use Rattle.plane.specs.declared.point.Point64.{Point64}
 use Rattle.plane.specs.declared.rect.Rect64.{Rect64}
-use Rattle.plane.specs.Basics.{if◌then◌else◌, none, push}
+use Rattle.plane.specs.Basics.{none, push}
 use Rattle.plane.specs.Locations.{side}
 use Rattle.plane.specs.Points.{points_of}
 use Rattle.reference.specs.Walk.{Walked, walk_closed}

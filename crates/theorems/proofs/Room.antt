@@ -1,5 +1,6 @@
 -- Every walk, of closed paths and of open ones, is refused for want of room or not at all: no step has another refusal. So with room for all points
 -- no walk is refused, and the walked outline is what that walk puts down. Assumes nothing.
+use Rattle.std.specs.Prelude.{if◌then◌else◌}
 use mathlib.Core.Path.{◌≡◌, refl}
 use mathlib.Core.Bool.{Bool, true, false, cond, not, ◌&&◌, ◌||◌}
 use mathlib.Core.List.{List, [], ◌∷◌}
@@ -12,7 +13,7 @@ use Rattle.plane.specs.declared.location.Location.{Location}
 use Rattle.plane.specs.declared.location.Location.TheVariants.{Left, Top, Right, Bottom, Inside}
 use Rattle.plane.specs.declared.crossing.Search.{Search}
 use Rattle.plane.specs.declared.crossing.Search.TheVariants.{Missed, Found}
-use Rattle.plane.specs.Basics.{if◌then◌else◌, is_nil, Try, refuse, ok, ◌>>=◌}
+use Rattle.plane.specs.Basics.{is_nil, Try, refuse, ok, ◌>>=◌}
 use Rattle.plane.specs.Points.{pt_at, same_point}
 use Rattle.plane.specs.Locations.{same_location, get_adjacent_location, is_inside}
 use Rattle.plane.specs.Rectangle.{as_path, mid_point, contains_point, get_bounds_path, get_location, beyond}

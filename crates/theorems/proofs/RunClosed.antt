@@ -1,5 +1,6 @@
 -- 10/13 of the closed walk: what RunWalk asks of it, and its start, which looks at the last point and, where that is on an edge, backwards for a
 -- point off the edges. It comes to the run's last point at the latest.
+use Rattle.std.specs.Prelude.{if◌then◌else◌}
 use mathlib.Core.Path.{◌≡◌, refl, sym, ◌∙◌, ap, subst}
 use mathlib.Core.Bool.{Bool, true, false, not}
 use mathlib.Core.List.{List, [], ◌∷◌, ◌++◌, append_assoc}
@@ -14,7 +15,7 @@ use Rattle.plane.specs.declared.location.Location.{Location}
 use Rattle.plane.specs.declared.location.Location.TheVariants.{Inside}
 use Rattle.plane.specs.declared.crossing.Search.{Search}
 use Rattle.plane.specs.declared.crossing.Search.TheVariants.{Missed, Found}
-use Rattle.plane.specs.Basics.{if◌then◌else◌, is_nil, Try, ok, ◌>>=◌}
+use Rattle.plane.specs.Basics.{is_nil, Try, ok, ◌>>=◌}
 use Rattle.plane.specs.Limit.{Limited, LimitedRect}
 use Rattle.plane.specs.Locations.{same_location, is_inside}
 use Rattle.plane.specs.Points.{origin, pt_at}

@@ -1,5 +1,6 @@
 -- 10/13 of the walk of lines: what RunWalk asks of it, and its start, which looks at the first point and, where that is on an edge, forwards for a
 -- point off the edges. It comes to the run's first point at the latest.
+use Rattle.std.specs.Prelude.{if◌then◌else◌}
 use mathlib.Core.Path.{◌≡◌, refl, sym, ◌∙◌, ap, subst}
 use mathlib.Core.Bool.{Bool, true, false}
 use mathlib.Core.List.{List, [], ◌∷◌, ◌++◌}
@@ -13,7 +14,7 @@ use Rattle.plane.specs.declared.location.Location.{Location}
 use Rattle.plane.specs.declared.location.Location.TheVariants.{Inside}
 use Rattle.plane.specs.declared.crossing.Search.{Search}
 use Rattle.plane.specs.declared.crossing.Search.TheVariants.{Missed, Found}
-use Rattle.plane.specs.Basics.{if◌then◌else◌, Try, ok, ◌>>=◌}
+use Rattle.plane.specs.Basics.{Try, ok, ◌>>=◌}
 use Rattle.plane.specs.Limit.{Limited, LimitedRect}
 use Rattle.plane.specs.Locations.{same_location, is_inside}
 use Rattle.plane.specs.Points.{pt_at}

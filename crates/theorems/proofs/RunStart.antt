@@ -1,5 +1,6 @@
 -- Where both walks start: at a point z off the edges, or, where z is on one, as a search for a point off the edges says. Two walks that search
 -- alike and go on alike from each location whose region has z are alike.
+use Rattle.std.specs.Prelude.{if◌then◌else◌}
 use mathlib.Core.Path.{◌≡◌, refl}
 use mathlib.Core.Bool.{Bool, true, false}
 use Rattle.plane.specs.declared.point.Point64.{Point64}
@@ -8,7 +9,7 @@ use Rattle.plane.specs.declared.location.Location.{Location}
 use Rattle.plane.specs.declared.location.Location.TheVariants.{Inside}
 use Rattle.plane.specs.declared.crossing.Search.{Search}
 use Rattle.plane.specs.declared.crossing.Search.TheVariants.{Missed, Found}
-use Rattle.plane.specs.Basics.{if◌then◌else◌, Try}
+use Rattle.plane.specs.Basics.{Try}
 use Rattle.plane.specs.Locations.{is_inside}
 use Rattle.plane.specs.Rectangle.{get_location}
 use Rattle.theorems.proofs.Alike.{Alike}

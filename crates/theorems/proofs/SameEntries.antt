@@ -1,5 +1,6 @@
 -- Two paths within the limits that the clipper of their kind draws alike are answered alike by its entry, and by its exported entry if that takes both:
 -- refusals 1, 5 and 7 come for neither, 2, 3, 4 and 6 do not look at the path, and 8, 10 and 11 follow from the drawing.
+use Rattle.std.specs.Prelude.{if◌then◌else◌}
 use mathlib.Core.Path.{◌≡◌, refl, sym, ◌∙◌, ap, subst}
 use mathlib.Core.Bool.{Bool, true, false, not, ◌||◌}
 use mathlib.Core.List.{List, [], ◌∷◌, map}
@@ -11,7 +12,7 @@ use lib.IntN.{ℤ}
 use borrow.Author.Tests.{le-ltb, eq-eqb, ne_eqb}
 use Rattle.plane.specs.declared.point.Point64.{Point64}
 use Rattle.plane.specs.declared.rect.Rect64.{Rect64}
-use Rattle.plane.specs.Basics.{if◌then◌else◌, Try, refuse, ok}
+use Rattle.plane.specs.Basics.{Try, refuse, ok}
 use Rattle.plane.specs.Limit.{Limited, rect_in_limit, all_in_limit}
 use Rattle.plane.specs.Points.{points_of, coordinates_of}
 use Rattle.reference.specs.Walk.{no_room}

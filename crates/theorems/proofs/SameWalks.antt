@@ -1,5 +1,6 @@
 -- What the walks do depends on what they have put down (points, starts and start sides) and on where they are, not on how many points they have gone
 -- past: from states that agree in these they come to such states, or to the same refusal. Assumes nothing.
+use Rattle.std.specs.Prelude.{if◌then◌else◌}
 use mathlib.Core.Path.{◌≡◌, refl, sym, ◌∙◌, ap, subst}
 use mathlib.Core.Bool.{Bool, true, false, not, ◌&&◌, ◌||◌}
 use mathlib.Core.List.{List, [], ◌∷◌}
@@ -9,7 +10,7 @@ use lib.Dec.{ltb}
 use Rattle.plane.specs.declared.point.Point64.{Point64}
 use Rattle.plane.specs.declared.rect.Rect64.{Rect64}
 use Rattle.plane.specs.declared.location.Location.{Location}
-use Rattle.plane.specs.Basics.{if◌then◌else◌, Try, ok, ◌>>=◌}
+use Rattle.plane.specs.Basics.{Try, ok, ◌>>=◌}
 use Rattle.plane.specs.Points.{same_point}
 use Rattle.plane.specs.Locations.{same_location, is_inside, get_adjacent_location, heading_clockwise}
 use Rattle.plane.specs.Rectangle.{get_location}

@@ -1,6 +1,7 @@
 -- What a search for a crossing finds. A found point is a corner of the rectangle or is near an exact crossing of the segment with an edge,
 -- and it lies at most one unit outside. A search finds something exactly where one of the sides that it tries has an exact crossing with the segment.
 -- Rectangle and segment are within the coordinate limit, and the rectangle is not empty. Assumes nothing.
+use Rattle.std.specs.Prelude.{if◌then◌else◌}
 use mathlib.Core.Path.{◌≡◌, refl, sym, ap, ◌∙◌, subst}
 use mathlib.Core.Bool.{Bool, true, false}
 use mathlib.Core.List.{[], ◌∷◌}
@@ -18,7 +19,6 @@ use Rattle.plane.specs.declared.crossing.Search.{Search}
 use Rattle.plane.specs.declared.crossing.Search.TheVariants.{Missed, Found}
 use Rattle.plane.specs.Limit.{Limited, LimitedRect}
 use Rattle.plane.specs.Rectangle.{is_empty, beyond}
-use Rattle.plane.specs.Basics.{if◌then◌else◌}
 use Rattle.plane.specs.Locations.{is_inside, lower, upper}
 use Rattle.plane.specs.Intersection.{edge_intersection, ◌or_else◌, side_intersection, get_intersection}
 use Rattle.theorems.specs.Demand.{ExactCrossing, AtMostOneOutside, onward, corner_point, crossing}

@@ -1,4 +1,5 @@
 -- The start locations that the closed walk notes are sides: each part of a pass keeps them so, where it comes from a side.
+use Rattle.std.specs.Prelude.{if◌then◌else◌}
 use mathlib.Core.Path.{◌≡◌, refl}
 use mathlib.Core.Bool.{Bool, true, false, not, ◌&&◌, ◌||◌}
 use mathlib.Core.List.{List, [], ◌∷◌, ◌++◌}
@@ -8,7 +9,7 @@ use Rattle.plane.specs.declared.point.Point64.{Point64}
 use Rattle.plane.specs.declared.rect.Rect64.{Rect64}
 use Rattle.plane.specs.declared.location.Location.{Location}
 use Rattle.plane.specs.declared.location.Location.TheVariants.{Left, Top, Right, Bottom, Inside}
-use Rattle.plane.specs.Basics.{if◌then◌else◌, is_nil, ok}
+use Rattle.plane.specs.Basics.{is_nil, ok}
 use Rattle.plane.specs.Points.{pt_at, same_point}
 use Rattle.plane.specs.Locations.{same_location, side, side_number, get_adjacent_location, is_inside}
 use Rattle.plane.specs.Rectangle.{mid_point, get_location, beyond, corner}

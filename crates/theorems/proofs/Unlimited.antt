@@ -1,4 +1,5 @@
 -- A walk with limited lists either runs out of room, or is the walk with unlimited ones: what a call walks is the walked outline.
+use Rattle.std.specs.Prelude.{if◌then◌else◌}
 use mathlib.Core.Path.{◌≡◌, ap}
 use mathlib.Core.Bool.{Bool, true, false, cond, not, ◌&&◌, ◌||◌}
 use mathlib.Core.List.{List, [], ◌∷◌}
@@ -12,7 +13,7 @@ use Rattle.plane.specs.declared.location.Location.{Location}
 use Rattle.plane.specs.declared.location.Location.TheVariants.{Left, Top, Right, Bottom, Inside}
 use Rattle.plane.specs.declared.crossing.Search.{Search}
 use Rattle.plane.specs.declared.crossing.Search.TheVariants.{Missed, Found}
-use Rattle.plane.specs.Basics.{if◌then◌else◌, is_nil, Try, refuse, ok, ◌>>=◌}
+use Rattle.plane.specs.Basics.{is_nil, Try, refuse, ok, ◌>>=◌}
 use Rattle.plane.specs.Locations.{side, same_location, get_adjacent_location, heading_clockwise, is_inside}
 use Rattle.plane.specs.Points.{pt_at, same_point}
 use Rattle.plane.specs.Rectangle.{get_location, mid_point, contains_point, get_bounds_path, as_path, corner, beyond}

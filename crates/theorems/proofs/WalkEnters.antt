@@ -1,4 +1,5 @@
 -- What the walk enters in edge lists: nothing, or the four corners alone. One fact of geometry is a premise, `EntryFound`.
+use Rattle.std.specs.Prelude.{if◌then◌else◌}
 use mathlib.Core.Path.{◌≡◌, refl, sym, ◌∙◌, ap, subst}
 use mathlib.Core.Bool.{Bool, true, false, cond, not, ◌&&◌, ◌||◌}
 use mathlib.Core.List.{List, [], ◌∷◌}
@@ -17,7 +18,7 @@ use Rattle.plane.specs.declared.rect.Rect64.{Rect64}
 use Rattle.plane.specs.declared.location.Location.{Location}
 use Rattle.plane.specs.declared.location.Location.TheVariants.{Left, Top, Right, Bottom, Inside}
 use Rattle.plane.specs.declared.crossing.Search.TheVariants.{Missed}
-use Rattle.plane.specs.Basics.{if◌then◌else◌, push, is_nil, lead, Try, ok, ◌>>=◌}
+use Rattle.plane.specs.Basics.{push, is_nil, lead, Try, ok, ◌>>=◌}
 use Rattle.plane.specs.Rectangle.{is_empty, get_location, mid_point, contains_point, get_bounds_path, as_path, corner, beyond_or_on}
 use Rattle.plane.specs.Points.{pt_at, origin, same_point}
 use Rattle.plane.specs.Locations.{same_location, heading_clockwise, start_locs_are_clockwise, is_inside}

@@ -1,12 +1,12 @@
 -- What is promised of the returned points and areas. Statements only.
-use Rattle.std.specs.Prelude.{◌≡◌, Bool, true, false, not, ◌&&◌, ◌⊎◌, ℕ, ◌+◌, ◌-◌, ◌<◌, length, T, ltb, ℤ, pos, nat_abs, ◌+ℤ◌, ◌-ℤ◌, ◌*ℤ◌, ◌≤ℤ◌}
+use Rattle.std.specs.Prelude.{◌≡◌, Bool, true, false, not, ◌&&◌, ◌⊎◌, ℕ, ◌+◌, ◌-◌, ◌<◌, length, T, ltb, ℤ, pos, nat_abs, ◌+ℤ◌, ◌-ℤ◌, ◌*ℤ◌, ◌≤ℤ◌, if◌then◌else◌}
 use mathlib.Core.List.{List, [], ◌∷◌, Memᴰ}
 use Rattle.rounding.specs.Coordinate.{exact, Near}
 use Rattle.plane.specs.declared.point.Point64.{Point64}
 use Rattle.plane.specs.declared.rect.Rect64.{Rect64}
 use Rattle.plane.specs.declared.location.Location.{Location}
 use Rattle.plane.specs.declared.location.Location.TheVariants.{Left, Top, Right, Bottom, Inside}
-use Rattle.plane.specs.Basics.{if◌then◌else◌, none, ok}
+use Rattle.plane.specs.Basics.{none, ok}
 use Rattle.plane.specs.Locations.{same_location}
 use Rattle.plane.specs.Points.{pt_at, points_of}
 use Rattle.plane.specs.Rectangle.{as_path, is_empty, intersects, contains_rect, get_bounds_path}

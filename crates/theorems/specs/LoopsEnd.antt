@@ -1,9 +1,9 @@
 -- The counted loops over the arena have all ended when a call of `execute` goes on from them: their counts never run out.
 -- Statements only, loop by loop along the definition. The loops of the walk are in Bounds and CornerLoops, those of `point_in_polygon` in Bounds.
-use Rattle.std.specs.Prelude.{◌≡◌, Bool, true, false, not, ◌||◌, ◌⊎◌, List, [], ◌∷◌, ℕ, zero, suc, ◌-◌, length, get_or, drop, T, eqb, ltb, leb, ℤ}
+use Rattle.std.specs.Prelude.{◌≡◌, Bool, true, false, not, ◌||◌, ◌⊎◌, List, [], ◌∷◌, ℕ, zero, suc, ◌-◌, length, get_or, drop, T, eqb, ltb, leb, ℤ, if◌then◌else◌}
 use Rattle.plane.specs.declared.point.Point64.{Point64}
 use Rattle.plane.specs.declared.rect.Rect64.{Rect64}
-use Rattle.plane.specs.Basics.{if◌then◌else◌, none, push, upwards, ok, ◌>>=◌}
+use Rattle.plane.specs.Basics.{none, push, upwards, ok, ◌>>=◌}
 use Rattle.plane.specs.Rectangle.{is_empty}
 use Rattle.reference.specs.Walk.{Walked, walk_closed}
 use Rattle.reference.specs.Arena.{Arena, next_of, owner_of, result_of, edge_list, set_results, set_result, Round, drop_collinear, check_ring, check_edges}

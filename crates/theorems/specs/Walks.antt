@@ -1,13 +1,13 @@
 -- The passes of both walks in the same words, so that what holds in every pass is said once. `closed` tells which: true for the closed path's `while`,
 -- that of `walk_closed`, false for the open path's, that of `walk_open`.
-use Rattle.std.specs.Prelude.{◌≡◌, Bool, true, false, List, ℕ, zero, suc, ◌-◌, length, drop, ltb, leb}
+use Rattle.std.specs.Prelude.{◌≡◌, Bool, true, false, List, ℕ, zero, suc, ◌-◌, length, drop, ltb, leb, if◌then◌else◌}
 use Rattle.plane.specs.declared.point.Point64.{Point64}
 use Rattle.plane.specs.declared.rect.Rect64.{Rect64}
 use Rattle.plane.specs.declared.location.Location.{Location}
 use Rattle.plane.specs.declared.location.Location.TheVariants.{Inside}
 use Rattle.plane.specs.declared.crossing.Search.{Search}
 use Rattle.plane.specs.declared.crossing.Search.TheVariants.{Found}
-use Rattle.plane.specs.Basics.{if◌then◌else◌, Try, ok, ◌>>=◌}
+use Rattle.plane.specs.Basics.{Try, ok, ◌>>=◌}
 use Rattle.plane.specs.Points.{pt_at}
 use Rattle.plane.specs.Locations.{is_inside}
 use Rattle.plane.specs.Rectangle.{get_location}

@@ -1,4 +1,5 @@
 -- `skipped` meets its contract: it counts as the definition does. Assumes nothing.
+use Rattle.std.specs.Prelude.{if◌then◌else◌}
 use mathlib.Core.Path.{◌≡◌, sym, ap, ◌∙◌}
 use mathlib.Core.Bool.{Bool}
 use Prim.Native.Nat.{◌+◌, ◌-◌, ◌/◌, ◌<◌}
@@ -10,7 +11,6 @@ use lib.Signed.{lt_z}
 use mir.Syntax.{w64}
 use mir.Val.{SFits}
 use mir.Facts.{to_z-of_z}
-use Rattle.plane.specs.Basics.{if◌then◌else◌}
 use Rattle.plane.specs.declared.point.Point64.{Point64}
 use Rattle.rectclip.proofs.Scans.{skip_turn, skip_wraps, skip_stops, skip_end}
 use Rattle.rectclip.proofs.polygon.skipped.Goals as goal
