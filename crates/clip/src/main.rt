@@ -2,6 +2,10 @@
 // counts as, and at a write that fails, with that write's error.
 #![tactic(auto)]
 
+ghost use Rattle.std.specs.Prelude.{OnOk};
+ghost use Rattle.program.specs.Taken.{at_hand};
+ghost use Rattle.clip.specs.Printed.{PrintsBehind, PrintsAll};
+
 use plane::rect::Rect64;
 use program::answers::{Start, answer_first, answer_line};
 use program::input::{Cursor, take_line};
@@ -15,7 +19,9 @@ fn print_answers<R: Read, W: Write>(
     rect: Rect64,
     start: Cursor,
     buffer: &mut [u8; 65536],
-) -> io::Result<()> {
+) -> io::Result<()>
+    ensures { OnOk result (PrintsBehind rect (at_hand buffer.old start) (R.remaining input.old) (R.remaining input.new) (W.contents output.old) (W.contents output.new)) }
+{
     let mut line = [0u8; 4097];
     let mut out = [0u8; 12288];
     let mut cursor = start;
@@ -38,7 +44,9 @@ fn print_answers<R: Read, W: Write>(
 }
 
 // All lines.
-fn print_all<R: Read, W: Write>(input: &mut R, output: &mut W) -> io::Result<()> {
+fn print_all<R: Read, W: Write>(input: &mut R, output: &mut W) -> io::Result<()>
+    ensures { OnOk result (PrintsAll (R.remaining input.old) (R.remaining input.new) (W.contents output.old) (W.contents output.new)) }
+{
     let mut buffer = [0u8; 65536];
     let mut line = [0u8; 4097];
     let mut out = [0u8; 128];

@@ -40,7 +40,7 @@ module _ (closed : Bool) (R : Rect64) (line : ℤ) (zs : List ℤ) where
       go false p false q = rw (p, q) exact_path
 
 -- ---- as they stand at a list's front
-front_of : {bytes out : List ℕ} {r : ℕ} {after : List ℕ} → Gives bytes out r after → bytes ≡ take r after
+pub front_of : {bytes out : List ℕ} {r : ℕ} {after : List ℕ} → Gives bytes out r after → bytes ≡ take r after
 front_of {bytes} {out} {r} {after} g = sym (ap (take r) g.list_after ∙ take_at bytes (drop (length bytes) out) r (sym g.count))
 
 module _ {closed : Bool} {R : Rect64} {line : ℤ} {zs : List ℤ} {out : List ℕ} {r : ℕ} {after : List ℕ} where

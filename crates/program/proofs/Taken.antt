@@ -34,12 +34,12 @@ begun_by at (b ∷ bs) = go (eqb b 10) refl
 
 -- ---- what a reader gives
 -- nothing, and so nothing is gone
-gives_none : (ahead : Option (List ℕ)) → Consumes ahead ahead []
+pub gives_none : (ahead : Option (List ℕ)) → Consumes ahead ahead []
 gives_none None = tt
 gives_none (Some xs) = refl
 
 -- a part, and then a part
-gives_more : (ahead₀ ahead ahead' : Option (List ℕ)) (xs ys : List ℕ) → Consumes ahead₀ ahead xs → Consumes ahead ahead' ys → Consumes ahead₀ ahead' (xs ++ ys)
+pub gives_more : (ahead₀ ahead ahead' : Option (List ℕ)) (xs ys : List ℕ) → Consumes ahead₀ ahead xs → Consumes ahead ahead' ys → Consumes ahead₀ ahead' (xs ++ ys)
 gives_more None ahead ahead' xs ys p q = tt
 gives_more (Some us) None ahead' xs ys p q = absurd p
 gives_more (Some us) (Some vs) None xs ys p q = absurd q
@@ -155,6 +155,15 @@ drop_cut m l {n} e = go (ltb (length l) m) refl
     go : (b : Bool) → ltb (length l) m ≡ b → drop m l ≡ drop n l
     go true q = let h = ltb-true (length l) m q in drop_past l m (omega arith) ∙ sym (drop_past l n (omega arith))
     go false q = let h = ltb-false (length l) m q in let z : m ≡ n = omega arith in ap (λ (k : ℕ). drop k l) z
+
+-- its bytes, as many as its list holds
+pub line_bytes : {ahead₀ ahead : Option (List ℕ)} {buffer : List ℕ} {start : Cursor} {line : List ℕ} {r : Taken} {buffer' line' : List ℕ} (t : TakesLine ahead₀ ahead buffer start line r buffer' line')
+    → take r.count line' ≡ take (length line) (before_feed (at_hand buffer start ++ t.came))
+line_bytes {buffer = buffer} {start = start} {line = line} {r = r} {line' = line'} t =
+    let bytes = before_feed (at_hand buffer start ++ t.came) in
+    let parts : line' ≡ take (length line) bytes ++ drop (length bytes) line = t.line_after ∙ sets_lead bytes line in
+    let front : length (take (length line) bytes) ≡ r.count = simp length-take (omega (arith, t.count)) in
+    ap (take r.count) parts ∙ take_at (take (length line) bytes) (drop (length bytes) line) r.count front
 
 pub is_line : {ahead₀ ahead : Option (List ℕ)} {buffer : List ℕ} {start : Cursor} {line : List ℕ} {r : Taken} {buffer' line' : List ℕ} → TakesLine ahead₀ ahead buffer start line r buffer' line' → IsLine line r line'
 is_line {buffer = buffer} {start = start} {line = line} {r = r} {buffer' = buffer'} {line' = line'} t =

@@ -1,0 +1,2 @@
+-- What the clip program prints for its input.
+pub mod Printed
