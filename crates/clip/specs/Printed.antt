@@ -1,8 +1,7 @@
 -- What the clip program prints for all of its input, where no write fails: the answer to line 1 and, under its rectangle, those to the lines behind
 -- it, one behind another. Where the reader and the writer say which bytes they have and hold, it is all a function of the bytes that came.
-use Rattle.std.specs.Prelude.{true, false, Option, List, [], ◌∷◌, ◌++◌, ℕ, ◌+◌, eqb, ltb, pos}
+use Rattle.std.specs.Prelude.{if◌then◌else◌, true, false, Option, List, [], ◌∷◌, ◌++◌, ℕ, ◌+◌, eqb, ltb, pos}
 use Rattle.std.specs.Io.KnownBytes.{Appends, Consumes}
-use Rattle.plane.specs.Basics.{if◌then◌else◌}
 use Rattle.plane.specs.Limit.{rect_in_limit}
 use Rattle.plane.specs.declared.rect.Rect64.{Rect64}
 use Rattle.text.specs.Reading.{put_first, Request, unreadable, rectangle, path}
