@@ -1,11 +1,10 @@
 // What the lines of the stored file do, one behind another: a rectangle, a drawing, or a line of a stored answer.
-ghost use Rattle.std.specs.Prelude.{◌≡◌, ◌≤◌, take, IfOk};
+ghost use Rattle.std.specs.Prelude.{◌≡◌, ◌≤◌, take};
 ghost use Rattle.text.specs.Same.{same};
 ghost use Rattle.replay.specs.Fits.{Fits, Fronts, Next};
 
 use plane::rect::Rect64;
 use program::answers::answer_line;
-use std::io;
 use std::io::Print;
 use text::comparing::same_bytes;
 use text::reading::{Request, read_line};
@@ -20,6 +19,7 @@ pub(crate) struct Replay {
     pub kept: usize,
     pub drawings: u64,
     pub same: u64,
+    pub stopped: bool,
 }
 
 // Whether the fronts of two lists are equal.
@@ -56,17 +56,20 @@ fn keep(line: &[u8], stored: &mut [u8; 12288], from: usize) -> usize
     put(10, stored, end)
 }
 
-// An error where not all of it was written.
-fn print_difference<P: Print>(rt: &P, line: u64) -> io::Result<()> {
-    println!(rt; "line {line} differs")
+// Answers whether all of it was written.
+fn print_difference<P: Print>(rt: &P, line: u64) -> bool {
+    match println!(rt; "line {line} differs") {
+        Ok(()) => true,
+        Err(_) => false,
+    }
 }
 
-// Prints a drawing whose answer is not the stored one; an error where a write failed.
-fn print_unless<P: Print>(rt: &P, equal: bool, line: u64) -> io::Result<()> {
+// Prints a drawing whose answer is not the stored one; answers whether a write failed.
+fn print_unless<P: Print>(rt: &P, equal: bool, line: u64) -> bool {
     if equal {
-        return Ok(());
+        return false;
     }
-    print_difference(rt, line)
+    !print_difference(rt, line)
 }
 
 // Line 1 of the clip program's input, as far as it is one.
@@ -87,33 +90,35 @@ impl Replay {
             kept: 0,
             drawings: 0,
             same: 0,
+            stopped: false,
         }
     }
 
-    // The last drawing is counted; one whose answer is not the stored one is printed. An error where a write failed, which ends the program.
+    // The last drawing is counted; one whose answer is not the stored one is printed.
     pub(crate) fn settled<P: Print>(
         self,
         rt: &P,
         answer: &[u8; 12288],
         stored: &[u8; 12288],
-    ) -> io::Result<Replay>
+    ) -> Replay
         requires { Fits self }
-        ensures { IfOk result (λ state. Fits state) }
+        ensures { Fits result }
     {
         if self.line == 0 {
-            return Ok(self);
+            return self;
         }
         let equal = same_fronts(answer, self.size, stored, self.kept);
-        print_unless(rt, equal, self.line)?;
+        let stopped = print_unless(rt, equal, self.line);
         let rect = self.rect;
-        Ok(Replay {
+        Replay {
             rect,
             line: 0,
             size: 0,
             kept: 0,
             drawings: self.drawings.wrapping_add(1),
             same: self.same.wrapping_add(equal as u64),
-        })
+            stopped,
+        }
     }
 
     // A line of the stored answer.
@@ -130,6 +135,7 @@ impl Replay {
             kept,
             drawings: self.drawings,
             same: self.same,
+            stopped: self.stopped,
         }
     }
 
@@ -140,6 +146,7 @@ impl Replay {
     {
         let drawings = self.drawings;
         let same = self.same;
+        let stopped = self.stopped;
         let request = read_first(line);
         if let Request::Rectangle(rect) = request {
             return Replay {
@@ -149,6 +156,7 @@ impl Replay {
                 kept: 0,
                 drawings,
                 same,
+                stopped,
             };
         }
         let rect = self.rect;
@@ -160,6 +168,7 @@ impl Replay {
             kept: 0,
             drawings,
             same,
+            stopped,
         }
     }
 
@@ -171,20 +180,19 @@ impl Replay {
         line: &[u8],
         answer: &mut [u8; 12288],
         stored: &mut [u8; 12288],
-    ) -> io::Result<Replay>
+    ) -> Replay
         requires { Next self number }
-        ensures { IfOk result (λ state. Fits state) }
+        ensures { Fits result }
     {
         if line.len() == 0 {
-            return Ok(self);
+            return self;
         }
         if line[0] == 35 {
-            return Ok(self);
+            return self;
         }
         if line[0] == 61 {
-            return Ok(self.stored(line, stored));
+            return self.stored(line, stored);
         }
-        let state = self.settled(rt, answer, stored)?;
-        Ok(state.asked(number, line, answer))
+        self.settled(rt, answer, stored).asked(number, line, answer)
     }
 }
