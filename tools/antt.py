@@ -60,8 +60,8 @@ def without_comments(text):
 
 @functools.cache
 def crates():
-    """The crates of crates.txt, in its order."""
-    return re.findall(r"^[ \t]*(\w+)[ \t]*:", re.sub(r"#.*", "", Path("crates.txt").read_text()), re.M)
+    """The crates of crates.txt, in its order; a line is `NAME: DEP ..`, with words of what is built between name and colon."""
+    return re.findall(r"^[ \t]*(\w+)[^:\n]*:", re.sub(r"#.*", "", Path("crates.txt").read_text()), re.M)
 
 
 def reached(crate, part):
