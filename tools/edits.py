@@ -193,7 +193,7 @@ def try_all(chosen):
 
 
 def check(crate, promises, logs):
-    all_functions = functions(crate) if os.path.exists(f"crates/{crate}/src/lib.rt") else []
+    all_functions = functions(crate)
     edits_of = {f.name: [] for f in all_functions}
     for path in files(crate):
         edit = parse(crate, path)

@@ -1,4 +1,4 @@
-"""Reads the functions of a library crate's src/: which are public, what they promise, and which call which."""
+"""Reads the functions of a crate's src/: which are public, what they promise, and which call which."""
 import re
 from dataclasses import dataclass
 from pathlib import Path
@@ -35,11 +35,12 @@ def source(path):
 
 def functions(crate):
     root = Path(f"crates/{crate}/src")
-    lib = "\n" + "\n".join(source(root / "lib.rt"))
+    top = "lib" if (root / "lib.rt").exists() else "main"
+    head = "\n" + "\n".join(source(root / f"{top}.rt"))
     found = []
     for path in sorted(root.rglob("*.rt")):
         module = "::".join(path.relative_to(root).with_suffix("").parts)
-        shown = module == "lib" or f"\npub mod {module.split('::')[0]};" in lib
+        shown = module == top or f"\npub mod {module.split('::')[0]};" in head
         lines, owner = source(path), ""
         for n, line in enumerate(lines, 1):
             if match := re.match(r"impl (\w+) \{", line):
@@ -51,7 +52,7 @@ def functions(crate):
                     raise SystemExit(f"{path}:{n}: a function in a form that tools/functions.py does not read")
                 continue
             last = next(k for k in range(n, len(lines)) if lines[k] == match[1] + "}") + 1
-            parts = [module if module != "lib" else "", owner, match[3]]
+            parts = [module if module != top else "", owner, match[3]]
             name = "::".join(p for p in parts if p)
             text = "\n".join(lines[n - 1 : last])
             found.append(Function(name, shown and match[2] == "pub ", f"src/{path.relative_to(root)}", n, last, text))
