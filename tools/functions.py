@@ -13,9 +13,9 @@ class Function:
     name: str  # as `rt` prints it, without the crate
     public: bool  # others can name it
     file: str
-    first: int  # the lines of its text, from 1
+    first: int  # its lines, from 1, with the attributes above
     last: int
-    text: str
+    text: str  # without these
 
     def contract(self):
         """The text before the body."""
@@ -55,7 +55,8 @@ def functions(crate):
             parts = [module if module != top else "", owner, match[3]]
             name = "::".join(p for p in parts if p)
             text = "\n".join(lines[n - 1 : last])
-            found.append(Function(name, shown and match[2] == "pub ", f"src/{path.relative_to(root)}", n, last, text))
+            first = next(k for k in range(n, 0, -1) if k == 1 or not lines[k - 2].startswith(f"{match[1]}#["))
+            found.append(Function(name, shown and match[2] == "pub ", f"src/{path.relative_to(root)}", first, last, text))
     return found
 
 
