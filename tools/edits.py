@@ -15,6 +15,7 @@ import shutil
 import subprocess
 import sys
 import tempfile
+from concurrent.futures import ThreadPoolExecutor
 from dataclasses import dataclass, field
 
 import antt
@@ -183,13 +184,25 @@ def try_edits(crate, room):
             shutil.copy(f"crates/{crate}/{file}", f"{folder}/{file}")
 
 
-def try_all(chosen):
+def try_crate(crate):
+    """In a copy of the repository of its own, since the checks of one checkout wait for one another."""
     with tempfile.TemporaryDirectory() as room:
         for file in filter(os.path.exists, ("crates.txt", "HANDLES")):
             shutil.copy(file, room)
         shutil.copytree("crates", f"{room}/crates", ignore=shutil.ignore_patterns("out", "must-fail"))
-        for crate in (c for c in antt.crates() if files(c) and c in (chosen or antt.crates())):
-            try_edits(crate, room)
+        try_edits(crate, room)
+
+
+def try_all(chosen):
+    """As many crates at a time as there are processors, the largest first."""
+    crates = [c for c in antt.crates() if files(c) and c in (chosen or antt.crates())]
+    with ThreadPoolExecutor(os.cpu_count()) as pool:
+        for _ in pool.map(try_crate, sorted(crates, key=size, reverse=True)):
+            pass
+
+
+def size(crate):
+    return sum(os.path.getsize(p) for p in glob.glob(f"crates/{crate}/proofs/**/*.antt", recursive=True)) * len(files(crate))
 
 
 def check(crate, promises, logs):
