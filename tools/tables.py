@@ -17,9 +17,8 @@ import unfold
 
 # where Cases.antt finds the types and the entries, and how a table finds Cases.antt
 CASE_USES = """\
-use Rattle.std.specs.Prelude.{Bool, true, false, List, [], ◌∷◌, ℕ, ◌+◌, ◌*◌, length, replicate, ℤ, pos, neg_ℤ}
+use Rattle.std.specs.Prelude.{Bool, true, false, List, [], ◌∷◌, ℕ, ◌+◌, ◌*◌, length, replicate, ℤ, pos, neg_ℤ, if◌then◌else◌}
 use Rattle.plane.specs.declared.rect.Rect64.{Rect64}
-use Rattle.plane.specs.Basics.{if◌then◌else◌}
 use Rattle.plane.specs.Points.{points_of, coordinates_of}
 use Rattle.reference.specs.Entry.{Lent, After, Outcome, refused, drawn, clip_closed, clip_open}
 use Rattle.reference.specs.Walk.{walked_outline}
