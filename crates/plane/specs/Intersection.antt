@@ -1,11 +1,12 @@
 -- `get_segment_intersection` and `get_intersection` of rectclip.rs: the crossing of a segment with an edge, and the search over the edges.
-use Rattle.std.specs.Prelude.{◌||◌, ℕ, pos, if◌then◌else◌}
+-- Beside them stand the two steps of document 02, 2/13, which the Rust does not have.
+use Rattle.std.specs.Prelude.{◌||◌, ℕ, ℤ, pos, if◌then◌else◌}
 use Rattle.std.specs.Bool.{beq}
 use Rattle.std.specs.Int.Signed.{lt_z}
 use Rattle.integers.specs.Tests.{eq_z}
 use Rattle.plane.specs.Locations.{lower, upper}
-use Rattle.plane.specs.Points.{same_point, pt_at}
-use Rattle.plane.specs.Rectangle.{as_path, beyond}
+use Rattle.plane.specs.Points.{point, same_point, pt_at}
+use Rattle.plane.specs.Rectangle.{max, min, as_path, beyond}
 use Rattle.plane.specs.Segment.{intersection}
 use Rattle.plane.specs.Signs.{cross_product_sign, is_horizontal}
 use Rattle.plane.specs.declared.crossing.Meeting.{Meeting}
@@ -17,6 +18,24 @@ use Rattle.plane.specs.declared.location.Location.{Location}
 use Rattle.plane.specs.declared.location.Location.TheVariants.{Left, Top, Right, Bottom, Inside}
 use Rattle.plane.specs.declared.point.Point64.{Point64}
 use Rattle.plane.specs.declared.rect.Rect64.{Rect64}
+
+-- 2/13: 'The coordinate across the edge is now set to the edge's, and the one along it is held between the edge's ends.'
+-- These two steps are not yet a part of `get_segment_intersection`: what it answers is the float crossing as it is.
+
+-- z, held between a and b, which may come in either order
+abbrev pub held_between : ℤ → ℤ → ℤ → ℤ
+held_between a b z = max (min a b) (min z (max a b))
+
+-- the two steps, on the edge from c to d, which is parallel to an axis
+abbrev pub put_on_edge : Point64 → Point64 → Point64 → Point64
+put_on_edge c d p =
+    if eq_z c.x d.x then point c.x (held_between c.y d.y p.y)
+    else point (held_between c.x d.x p.x) c.y
+
+-- on what `get_segment_intersect_pt` answers
+abbrev pub held_to_edge : Point64 → Point64 → Meeting → Meeting
+held_to_edge c d Apart = Apart
+held_to_edge c d (Met p) = Met (put_on_edge c d p)
 
 -- `get_segment_intersection` of the segment from p1 to p2 with the edge from p3 to p4
 -- p, which is on the line through a and b, is a crossing where it lies between them

@@ -1,6 +1,6 @@
 // A crossing of a segment and an edge, the record of its binary64 numbers, where the two meet, and what a search over the edges finds.
 ghost use Rattle.std.specs.Prelude.{◌≡◌};
-ghost use Rattle.plane.specs.Intersection.{found_or};
+ghost use Rattle.plane.specs.Intersection.{held_to_edge, found_or};
 
 use crate::location::Location;
 use crate::point::Point64;
@@ -43,6 +43,18 @@ pub enum Search {
 pub struct SidePoint {
     pub point: Point64,
     pub side: Location,
+}
+
+impl Meeting {
+    // The point that was met, put on the edge from c to d.
+    pub fn held_to_edge(self, c: Point64, d: Point64) -> Meeting
+        ensures { result ≡ held_to_edge c d self }
+    {
+        match self {
+            Meeting::Apart => Meeting::Apart,
+            Meeting::Met(p) => Meeting::Met(p.put_on_edge(c, d)),
+        }
+    }
 }
 
 impl Search {

@@ -1,6 +1,9 @@
-// Points of the plane, as core.rs has them.
+// Points of the plane, as core.rs has them, and a point put on an edge.
 ghost use Rattle.std.specs.Prelude.{◌≡◌};
+ghost use Rattle.plane.specs.Intersection.{held_between, put_on_edge};
 ghost use Rattle.plane.specs.Points.{point, same_point};
+
+use crate::rect::{max, min};
 
 #[derive(Clone, Copy)]
 pub struct Point64 {
@@ -21,4 +24,27 @@ impl Point64 {
     {
         (self.x == other.x) & (self.y == other.y)
     }
+
+    // The point put on the edge from c to d, which is parallel to an axis: its coordinate across the edge becomes the edge's, and the one
+    // along it is held between the edge's ends.
+    pub(crate) fn put_on_edge(self, c: Point64, d: Point64) -> Point64
+        ensures { result ≡ put_on_edge c d self }
+    {
+        if c.x == d.x {
+            let y = held_between(c.y, d.y, self.y);
+            return Point64 { x: c.x, y };
+        }
+        let x = held_between(c.x, d.x, self.x);
+        Point64 { x, y: c.y }
+    }
+}
+
+// z, held between a and b.
+fn held_between(a: i64, b: i64, z: i64) -> i64
+    ensures { result ≡ held_between a b z }
+{
+    let low = min(a, b);
+    let high = max(a, b);
+    let below = min(z, high);
+    max(low, below)
 }

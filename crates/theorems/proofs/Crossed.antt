@@ -15,9 +15,14 @@ use Rattle.plane.specs.declared.crossing.Crossing.{Crossing}
 use Rattle.plane.specs.declared.crossing.Crossing.TheVariants.{Nothing, At, Along}
 use Rattle.plane.specs.declared.crossing.Meeting.TheVariants.{Met}
 use Rattle.plane.specs.Limit.{AllLimited}
+use Rattle.plane.specs.Points as points
 use Rattle.plane.specs.Segment.{determinant, numerator, fraction, working_of, crossing_of, point_at, settled_of, intersection}
 use Rattle.plane.specs.Found.{Found, NearCrossing}
 use Rattle.integers.specs.Order.{abs_mul as size_mul}
+
+-- the point n / d of the way from a to b, as binary64 has it
+abbrev pub part_way : Point64 → Point64 → ℕ → ℕ → Point64
+part_way a b n d = points.point (coordinate a.x b.x (round binary64 false n d)) (coordinate a.y b.y (round binary64 false n d))
 
 -- ---- numerator and determinant are exact
 module _ (a b c d : Point64) (h : AllLimited a b c d) where
@@ -93,6 +98,11 @@ module _ (a b c d : Point64) (h : AllLimited a b c d) where
       (subst (λ (u : ℤ). Is (determinant a b c d) u)
       (right_product (b.y -ℤ a.y) (d.x -ℤ c.x) (d.y -ℤ c.y) (b.x -ℤ a.x) z ∙ ap (λ (u : ℤ). u *ℤ (d.y -ℤ c.y)) (neg_difference b.x a.x)) determinant_is)
 
+  pub upright_at : d.x ≡ c.x → 0 < nat_abs (d.y -ℤ c.y) → Crosses a.x c.x b.x
+      → intersection a b c d ≡ Met (part_way a b (nat_abs (a.x -ℤ c.x)) (nat_abs (a.x -ℤ b.x)))
+  unfolding point crossed_at upright_near
+  upright_at e w k = (upright_near e w k).is
+
   -- ---- an edge along y = c.y
   pub level_near : d.y ≡ c.y → 0 < nat_abs (d.x -ℤ c.x) → Crosses a.y c.y b.y
       → Found a b (nat_abs (a.y -ℤ c.y)) (nat_abs (a.y -ℤ b.y)) (intersection a b c d)
@@ -104,6 +114,11 @@ module _ (a b c d : Point64) (h : AllLimited a b c d) where
       (right_product (a.x -ℤ c.x) (d.y -ℤ c.y) (a.y -ℤ c.y) (d.x -ℤ c.x) z ∙ *ℤ_comm (neg_ℤ (d.x -ℤ c.x)) (a.y -ℤ c.y)) numerator_is)
       (subst (λ (u : ℤ). Is (determinant a b c d) u)
       (level_product (b.y -ℤ a.y) (d.x -ℤ c.x) (d.y -ℤ c.y) (b.x -ℤ a.x) z ∙ ap (λ (u : ℤ). u *ℤ neg_ℤ (d.x -ℤ c.x)) (neg_difference b.y a.y)) determinant_is)
+
+  pub level_at : d.y ≡ c.y → 0 < nat_abs (d.x -ℤ c.x) → Crosses a.y c.y b.y
+      → intersection a b c d ≡ Met (part_way a b (nat_abs (a.y -ℤ c.y)) (nat_abs (a.y -ℤ b.y)))
+  unfolding point crossed_at level_near
+  level_at e w k = (level_near e w k).is
 
 pub near_crossing : (a b c d : Point64) → AllLimited a b c d → NearCrossing a b c d (intersection a b c d)
 near_crossing a b c d h = record { upright = upright_near a b c d h; level = level_near a b c d h }

@@ -11,6 +11,8 @@ pub mod Sources
 pub mod CrossingSigns
 pub mod Crossings
 pub mod Demand
+pub mod Axes
+pub mod AlongStays
 pub mod Unlimited
 pub mod Ends
 pub mod Corners
