@@ -6,8 +6,6 @@ from pathlib import Path
 SHAPE = re.compile(r"has no field|has no `|is not in scope|the borrow checker does not|expected (?:a measure|an invariant) in ")
 # What only follows from another error.
 FOLLOWS = re.compile(r"`[^`]*` was not admitted|\d+ declarations? that depends? on ")
-# What is open and has values that break it.
-FALSE = re.compile(r"the facts known there allow values at which this goal is false")
 # What is said of a place; the lines behind it say how the two sides compare.
 SAID = re.compile(r"^(note: )?(?:\./)?((?:src|specs|proofs)/[^\s:]+):(\d+):\d+: (error: )?(.*)$", re.M)
 
@@ -40,7 +38,7 @@ class Log:
         errors = [what for where, what in self.errors if where.startswith(folder) and not follows(what)]
         left = [what for where, line, what in self.open if where == f.file and f.first <= line <= f.last]
         fits = not any(SHAPE.search(e) for e in [*errors, status])
-        return status.startswith(("not proved", "no proof")) and (fits and bool(errors + left) or any(FALSE.search(what) for what in left))
+        return status.startswith(("not proved", "no proof")) and fits and bool(errors + left)
 
     def refuses_law(self, file, law):
         """Is a law refused for its own sake?"""

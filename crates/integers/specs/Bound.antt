@@ -26,7 +26,7 @@ pub record Num : Type 0 where
 abbrev pub par : (x : ℤ) (b : ℕ) → nat_abs x ≤ b → T (ltb b (2 ^ 63)) → Num
 par x b h t = record { m = rd x; x = x; b = b; is = to_z-of_z (sfits_abs (le_trans (suc_le h) (ltb→lt b (2 ^ 63) t))); lim = h }
 
--- a variable that a loop changes, which a need has by its bits: the goal has `to_z w64 n`
+-- a variable that a loop changes, which a goal has by its bits: the goal has `to_z w64 n`
 abbrev pub loc : (n : ℕ) (b : ℕ) → nat_abs (to_z w64 n) ≤ b → Num
 loc n b h = record { m = to_z w64 n; x = to_z w64 n; b = b; is = refl; lim = h }
 

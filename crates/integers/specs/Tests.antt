@@ -179,7 +179,7 @@ eq_yes a b e = eq→ {a = a} {b = b} (eqZ_true e)
 
 pub ruleset ztest = (zint, lt_yes, lt_no, le_yes, le_no, eq_yes)
 
--- ---- a call's signed result r: what the machine reads of it is what the callee ensures. `back c.f.ok c.f.ensures`
+-- ---- a call's signed result r: what the machine reads of it is what the callee ensures. `back c.f.type_inv c.f.ensures`
 pub back : {r z : ℤ} → mag r < 2 ^ 63 → r ≡ z → to_z w64 (of_z w64 r) ≡ z
 back {r} {z} h e = to_z-of_z {w = w64} (record { sfits = h }) ∙ e
 
