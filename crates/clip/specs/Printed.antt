@@ -1,5 +1,6 @@
--- What the clip program prints for all of its input, where no write fails: the answer to line 1 and, under its rectangle, those to the lines behind
--- it, one behind another. Where the reader and the writer say which bytes they have and hold, it is all a function of the bytes that came.
+-- What the clip program prints for the bytes that it reads, where no write fails: the answer to line 1 and, under its rectangle, those to the lines behind
+-- it, one behind another, of a reader and a writer that say which bytes they have and hold. Standard input and output do not, and of them nothing is said
+-- here. Nor is it said that the input is read to its end.
 use Rattle.std.specs.Prelude.{if◌then◌else◌, true, false, Option, List, [], ◌∷◌, ◌++◌, ℕ, ◌+◌, eqb, ltb, pos}
 use Rattle.std.specs.Io.KnownBytes.{Appends, Consumes}
 use Rattle.plane.specs.Limit.{rect_in_limit}
