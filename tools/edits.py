@@ -4,8 +4,9 @@
 Every public function of every library promises something (`ensures`) and has two edits or more, which are printed: those that change its own
 text or a constant that it names; those of a private function, said by a line `of: PUBLIC from PRIVATE`: the public one calls it, and is proved from its
 promise, which has an equation (functions.py says how that is decided); and those of a line `of: PUBLIC`, whose log must refuse that function itself.
-An edit of specs/ names the law that refuses it, `at: FILE LAW`. Every old text stands once in its file, and the new one has the same control words, so
-that the proofs still fit. Functions that one edit changes do not call each other, so that each is refused for its own sake.
+An edit of specs/ names the law that refuses it, `at: FILE LAW`, and so does one of an item's head, which puts an impl written by hand in place of a
+derive. Every old text stands once in its file, and the new one has the same control words, but at an item's head, so that the proofs still fit.
+Functions that one edit changes do not call each other, so that each is refused for its own sake.
 `rt must-fail` and `rt ci` print the first refusal of an edit alone. --try makes each edit in a copy of the repository and keeps what `rt check` says of it, in
 target/must-fail; --logs then asks that each of these logs refuses every function and law that its edit is to make wrong, for a fact (refusals.py)."""
 import glob
@@ -22,6 +23,7 @@ import antt
 from functions import Promises, called, fitting, functions
 from refusals import Log, path_of
 
+HEAD = re.compile(r" *(?:#\[derive\(|impl \w+ \{|pub (?:enum|struct) )")
 CONTROL = re.compile(r"\b(?:let|if|else|while|loop|for|return|match|break|continue)\b|;|=>|&&|\|\|")
 wrong = []
 
@@ -52,7 +54,7 @@ def replaced(part, texts, crate, path, file, old, new):
     if text.count(old) != 1:
         wrong.append(f"{path}: an old text stands {text.count(old)} times in {file}")
         return
-    if file.startswith("src/") and CONTROL.findall(old) != CONTROL.findall(new):
+    if file.startswith("src/") and not HEAD.match(old) and CONTROL.findall(old) != CONTROL.findall(new):
         wrong.append(f"{path}: a new text has other control words than the old: {old.strip()}")
     part.places.append((file, text[: text.index(old)].count("\n") + 1))
     texts[file] = text.replace(old, new)
@@ -135,7 +137,7 @@ def check_log(where, log, edit, own):
 def check_part(where, part, touched):
     if any(file.startswith("specs/") for file, _ in part.places) and not part.at:
         wrong.append(f"{where}: a change of specs/ without a line `at: FILE LAW`")
-    if any(not file.startswith("specs/") for file, _ in part.places) and not touched:
+    if any(not file.startswith("specs/") for file, _ in part.places) and not (touched or part.at):
         wrong.append(f"{where}: a change of no function")
 
 

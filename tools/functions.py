@@ -37,22 +37,27 @@ def functions(crate):
     root = Path(f"crates/{crate}/src")
     top = "lib" if (root / "lib.rt").exists() else "main"
     head = "\n" + "\n".join(source(root / f"{top}.rt"))
-    found = []
-    for path in sorted(root.rglob("*.rt")):
-        module = "::".join(path.relative_to(root).with_suffix("").parts)
+    found, homes = [], {}
+    files = {path: "::".join(path.relative_to(root).with_suffix("").parts) for path in sorted(root.rglob("*.rt"))}
+    for path, module in files.items():
+        for name in re.findall(r"^(?:pub(?:\(crate\))? )?(?:struct|enum) (\w+)", "\n".join(source(path)), re.M):
+            homes[name] = module
+    for path, module in files.items():
         shown = module == top or f"\npub mod {module.split('::')[0]};" in head
-        lines, owner = source(path), ""
+        lines, owner, home = source(path), "", module
         for n, line in enumerate(lines, 1):
-            if match := re.match(r"impl (\w+) \{", line):
-                owner = match[1]
+            if match := re.match(r"impl(?:<[^>]*>)? (\w+)(?:<[^>]*>)? \{", line):
+                owner, home = match[1], homes.get(match[1], module)  # a method stands where its type does
+            elif match := re.match(r"impl (\w+)(?:<(\w+)>)? for (\w+) \{", line):
+                owner = match[3][0].upper() + match[3][1:] + match[1] + (match[2] or "")
             elif line == "}":
-                owner = ""
+                owner, home = "", module
             if not (match := FUNCTION.match(line)):
                 if re.search(r"\bfn \w+", line):
                     raise SystemExit(f"{path}:{n}: a function in a form that tools/functions.py does not read")
                 continue
             last = next(k for k in range(n, len(lines)) if lines[k] == match[1] + "}") + 1
-            parts = [module if module != top else "", owner, match[3]]
+            parts = [home if home != top else "", owner, match[3]]
             name = "::".join(p for p in parts if p)
             text = "\n".join(lines[n - 1 : last])
             first = next(k for k in range(n, 0, -1) if k == 1 or not lines[k - 2].startswith(f"{match[1]}#["))
@@ -79,7 +84,7 @@ def called(f, all_functions):
 
 class Promises:
     """Says of a function whether its promise has an equation: one of its facts ends in `≡` behind its premises, or names a record of
-    specs/ with a field that does so, itself or by the record that it names."""
+    specs/ with a field that does so, itself or by the record that it names; an abbreviation stands for its body."""
 
     def __init__(self):
         self.records = {}
@@ -88,6 +93,8 @@ class Promises:
                 if match := re.match(r" *(?:pub )?record (\S+)[^\n]* where\n((?: +\S[^\n]*\n?|\n)*)", part):
                     types = [line.partition(" : ")[2] for line in re.split(r"\n(?= +(?:pub )?\S+ : )", "\n" + match[2])]
                     self.records[(module.key, match[1])] = (module, types)
+            for name, body in re.findall(r"\nabbrev pub (\S+) : [^\n]*\n\1(?: [^=\n]*)? = ([^\n]*)", module.text):
+                self.records[(module.key, name)] = (module, [body])
 
     def is_equation(self, module, fact, deep=4):
         conclusion = re.split(r"→", flat(fact))[-1]

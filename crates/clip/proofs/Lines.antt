@@ -3,7 +3,7 @@ use Rattle.std.proofs.Common.{◌≡◌, refl, sym, ap, ℕ, ◌<◌, Bool, true
 use lib.ListN.{length-take}
 use lib.Seq.{take_all}
 use borrow.Author.Tests.{lt-ltb, ltb-true, ltb-false}
-use Rattle.text.specs.Reading.{put_first}
+use Rattle.std.specs.List.{onto_first}
 use Rattle.text.specs.Reading as reading
 use Rattle.text.specs.Asked.{request}
 use Rattle.program.specs.Taken.{before_feed, has_feed, behind_feed, has_bytes}
@@ -18,7 +18,7 @@ lines_feed (x ∷ xs) ys e = go (eqb x 10) refl (lines_feed xs ys)
     go : (b : Bool) → eqb x 10 ≡ b → (has_feed xs ≡ true → lines_of (xs ++ ys) ≡ before_feed xs ∷ lines_of (behind_feed xs ++ ys))
         → lines_of (x ∷ xs ++ ys) ≡ before_feed (x ∷ xs) ∷ lines_of (behind_feed (x ∷ xs) ++ ys)
     go true q rest = rw q refl
-    go false q rest = rw q (ap (put_first x) (rest (rw q at e)))
+    go false q rest = rw q (ap (onto_first x) (rest (rw q at e)))
 
 -- and one that is the last
 pub lines_last : (xs : List ℕ) → has_feed xs ≡ false → has_bytes xs ≡ true → lines_of xs ≡ xs ∷ []
@@ -28,7 +28,7 @@ lines_last (x ∷ xs) e f = go (eqb x 10) refl xs (lines_last xs) e
     go : (b : Bool) → eqb x 10 ≡ b → (zs : List ℕ) → (has_feed zs ≡ false → has_bytes zs ≡ true → lines_of zs ≡ zs ∷ []) → has_feed (x ∷ zs) ≡ false → lines_of (x ∷ zs) ≡ (x ∷ zs) ∷ []
     go true q zs rest e = absurd (true≢false (rw q at e))
     go false q [] rest e = rw q refl
-    go false q (z ∷ zs) rest e = rw q (ap (put_first x) (rest (rw q at e) refl))
+    go false q (z ∷ zs) rest e = rw q (ap (onto_first x) (rest (rw q at e) refl))
 
 pub no_bytes_left : (xs : List ℕ) → has_bytes xs ≡ false → xs ≡ []
 no_bytes_left [] e = refl

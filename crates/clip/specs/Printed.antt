@@ -5,7 +5,8 @@ use Rattle.std.specs.Prelude.{if◌then◌else◌, true, false, Option, List, []
 use Rattle.std.specs.Io.KnownBytes.{Appends, Consumes}
 use Rattle.plane.specs.Limit.{rect_in_limit}
 use Rattle.plane.specs.declared.rect.Rect64.{Rect64}
-use Rattle.text.specs.Reading.{put_first, Request, unreadable, rectangle, path}
+use Rattle.std.specs.List.{onto_first}
+use Rattle.text.specs.Reading.{Request, unreadable, rectangle, path}
 use Rattle.text.specs.Asked.{request}
 use Rattle.program.specs.Answered.{first_answer, answer}
 
@@ -14,7 +15,7 @@ abbrev pub lines_of : List ℕ → List (List ℕ)
 lines_of [] = []
 lines_of (b ∷ bs) =
     let rest = lines_of bs in
-    if eqb b 10 then [] ∷ rest else put_first b rest
+    if eqb b 10 then [] ∷ rest else onto_first b rest
 
 -- the answers to the lines from number n on; a line's number is one of 64 signed bits, which no run uses up
 abbrev pub answers_from : Rect64 → ℕ → List (List ℕ) → List ℕ

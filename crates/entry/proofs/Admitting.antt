@@ -1,5 +1,5 @@
 -- What the checks of a call say: each way by which a call is stopped, and what is known of one that is let through. Assumes nothing.
-use Rattle.std.specs.Prelude.{if◌then◌else◌}
+use Rattle.std.specs.Prelude.{Result, Ok, Err, if◌then◌else◌}
 use mathlib.Core.Path.{◌≡◌, refl}
 use mathlib.Core.Bool.{Bool, true, false, not}
 use mathlib.Core.List.{List}
@@ -14,8 +14,6 @@ use Rattle.plane.specs.Limit.{all_in_limit, rect_in_limit}
 use Rattle.plane.specs.Points.{points_of}
 use Rattle.plane.specs.Rectangle.{get_bounds_path}
 use Rattle.reference.specs.Entry.{early_refusal, sheet_refusal}
-use Rattle.entry.specs.declared.admission.Admission.{Admission}
-use Rattle.entry.specs.declared.admission.Admission.TheVariants.{Admitted, Refused}
 use Rattle.entry.specs.declared.answer.Refusal.{Refusal}
 use Rattle.entry.specs.Answers.{number, stopped, surveyed, checked, admission}
 use Rattle.entry.proofs.Sheets.{number_not_zero}
@@ -84,22 +82,22 @@ let_through W A work rect coords e =
 
 -- ---- what an admission tells
 -- a refusal is the number that the checks give
-pub stops : (why : Refusal) (coords : List ℤ) (n : ℕ) → number why ≡ n → checked (Refused why) ≡ admission n coords
+pub stops : (why : Refusal) (coords : List ℤ) (n : ℕ) → number why ≡ n → checked (Err why) ≡ admission n coords
 stops why coords n e = rw (← e, number_not_zero why) refl
 
 -- and no number is 0
-pub admits : (coords : List ℤ) (n : ℕ) {bounds : Rect64} → 0 ≡ n → bounds ≡ get_bounds_path (points_of coords) → checked (Admitted bounds) ≡ admission n coords
+pub admits : (coords : List ℤ) (n : ℕ) {bounds : Rect64} → 0 ≡ n → bounds ≡ get_bounds_path (points_of coords) → checked (Ok bounds) ≡ admission n coords
 admits coords n e b = rw (← e, b) refl
 
-module _ (coords : List ℤ) (n : ℕ) (k : Admission) (ek : checked k ≡ admission n coords) where
-  pub told_stopped : (why : Refusal) → k ≡ Refused why → n ≡ number why
+module _ (coords : List ℤ) (n : ℕ) (k : Result Rect64 Refusal) (ek : checked k ≡ admission n coords) where
+  pub told_stopped : (why : Refusal) → k ≡ Err why → n ≡ number why
   told_stopped why e = go (eqb n 0) refl
     where
       go : (b : Bool) → eqb n 0 ≡ b → n ≡ number why
       go true t = absurd (let z : stopped (number why) ≡ surveyed (get_bounds_path (points_of coords)) = rw (e, t) at ek in let y : ◌≡◌ {A = ℕ} 0 1 = cc in omega arith)
       go false t = let z : stopped (number why) ≡ stopped n = rw (e, t) at ek in cc
 
-  pub told_admitted : (bounds : Rect64) → k ≡ Admitted bounds → (n ≡ 0) × (bounds ≡ get_bounds_path (points_of coords))
+  pub told_admitted : (bounds : Rect64) → k ≡ Ok bounds → (n ≡ 0) × (bounds ≡ get_bounds_path (points_of coords))
   told_admitted bounds e = go (eqb n 0) refl
     where
       go : (b : Bool) → eqb n 0 ≡ b → (n ≡ 0) × (bounds ≡ get_bounds_path (points_of coords))

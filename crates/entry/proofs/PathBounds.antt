@@ -4,13 +4,12 @@ use mathlib.Core.Path.{◌≡◌, refl, sym, ap, ◌∙◌, subst}
 use mathlib.Core.Bool.{Bool, true, false, ◌&&◌}
 use mathlib.Core.Logic.{⊎_elim}
 use mathlib.Core.List.{List, [], ◌∷◌}
-use Prim.Native.Nat.{ℕ, suc, ◌+◌, ◌%◌, ◌≤◌, ◌<◌}
-use native.Mathlib.Numerals.{add-one, add-two}
+use Prim.Native.Nat.{◌-◌, ◌%◌, ◌≤◌, ◌<◌}
 use native.Mathlib.Omega.{arith}
 use lib.Dec.{T, leb→le, le→leb}
 use lib.IntN.{ℤ, pos, nat_abs}
-use lib.ListN.{length, drop, get_or, length-drop}
-use lib.Seq.{drop-cons}
+use lib.ListN.{length, take, drop, get_or}
+use Rattle.std.proofs.lemmas.List.{take_all}
 use lib.Signed.{lt_z, ◌≤ℤ◌, ◌<ℤ◌}
 use Rattle.integers.specs.Order.{zint, abs_pn, parts}
 use Rattle.integers.specs.Tests.{ltZ_true, ltZ_false, lt_ltZ, cond_true}
@@ -24,30 +23,20 @@ use Rattle.entry.specs.declared.survey.Extent.{Extent}
 use Rattle.entry.specs.Survey.{survey, BoundsTellLimit}
 
 -- ---- the loop
--- the next point taken from those that are left
-next_grows : (path : List ℤ) (i : ℕ) (s : Rect64) → i + 1 < length path
-    → bounds_from s (points_of (drop i path)) ≡ bounds_from (grown s (point (get_or path i (pos 0)) (get_or path (i + 1) (pos 0)))) (points_of (drop (i + 2) path))
-next_grows path i s h =
-    let h0 : i < length path = omega arith in
-    let h1 : suc i < length path = omega arith in
-    rw (add-one, add-two, drop-cons path i (pos 0) h0, drop-cons path (suc i) (pos 0) h1)
-
 -- one turn: what the bounds and the points that are left come to, the bounds with the next point and the points behind it do
-pub grow_step : (path : List ℤ) (i : ℕ) (s : Rect64) → i + 1 < length path → {t : Rect64} → t ≡ grown s (point (get_or path i (pos 0)) (get_or path (i + 1) (pos 0))) → {goal : Rect64}
-    → bounds_from s (points_of (drop i path)) ≡ goal → bounds_from t (points_of (drop (i + 2) path)) ≡ goal
-grow_step path i s h e g = ap (λ (r : Rect64). bounds_from r (points_of (drop (i + 2) path))) e ∙ sym (next_grows path i s h) ∙ g
+pub grow_step : (left : List ℤ) (s : Rect64) → 2 ≤ length left → {t : Rect64} → t ≡ grown s (point (get_or left 0 (pos 0)) (get_or left 1 (pos 0))) → {goal : Rect64}
+    → bounds_from s (points_of left) ≡ goal → bounds_from t (points_of (take (length left - 2) (drop 2 left))) ≡ goal
+grow_step [] s h e g = absurd (omega arith)
+grow_step (x ∷ []) s h e g = absurd (omega arith)
+grow_step (x ∷ y ∷ left) s h e g =
+    let all : take (length (x ∷ y ∷ left) - 2) left ≡ left = take_all _ left (omega arith) in
+    rw (all, e) g
 
 -- no point is left
-pub grow_short : (path : List ℤ) (i : ℕ) (s : Rect64) → length path ≤ i + 1 → bounds_from s (points_of (drop i path)) ≡ s
-grow_short path i s h = go (drop i path) (omega (arith, length-drop i path))
-  where
-    none : (n : ℕ) → suc (suc n) ≤ 1 → ⊥
-    none n h = omega arith
-
-    go : (l : List ℤ) → length l ≤ 1 → bounds_from s (points_of l) ≡ s
-    go [] h = refl
-    go (x ∷ []) h = refl
-    go (x ∷ y ∷ l) h = absurd (none (length l) h)
+pub grow_short : (left : List ℤ) (s : Rect64) → length left < 2 → bounds_from s (points_of left) ≡ s
+grow_short [] s h = refl
+grow_short (x ∷ []) s h = refl
+grow_short (x ∷ y ∷ left) s h = absurd (omega arith)
 
 -- ---- one axis: the lower and the upper bound with one more number
 abbrev low : ℤ → ℤ → ℤ

@@ -1,6 +1,6 @@
 -- The refusals of a sheet, 5, 6 and 7, and what *present* answers, way by way. Assumes nothing.
 use Rattle.std.specs.Prelude.{if◌then◌else◌}
-use mathlib.Core.Path.{◌≡◌, refl, sym, ap, ◌∙◌}
+use mathlib.Core.Path.{◌≡◌, refl, ◌∙◌}
 use mathlib.Core.Bool.{Bool, true, false, not, ◌&&◌}
 use mathlib.Core.List.{List}
 use Prim.Native.Nat.{ℕ, ◌/◌, ◌%◌, ◌≤◌, ◌<◌}
@@ -13,7 +13,8 @@ use Rattle.plane.specs.Points.{points_of}
 use Rattle.plane.specs.Rectangle.{is_empty, intersects, get_bounds_path}
 use Rattle.plane.specs.declared.rect.Rect64.{Rect64}
 use Rattle.reference.specs.Entry.{sheet_refusal, is_present, unknown, yes, no}
-use Rattle.entry.specs.Answers.{number}
+use Rattle.std.specs.Prelude.{Ok}
+use Rattle.entry.specs.Answers.{number, presence}
 use Rattle.entry.specs.declared.answer.Refusal.{Refusal}
 use Rattle.entry.specs.declared.answer.Refusal.TheVariants.{OddCoordinates, StoreTooLong, AllowanceTooLarge, WorkTooShort, PathTooLong, RectangleOutside, PathOutside, StoreFull, TurnsSpent, ListsTooShort, UnreadableLine}
 
@@ -48,10 +49,13 @@ module _ (r : Rect64) (c : List ℤ) where
   unfolding is_present
   present_told h e = rw (ne_eqb (length c % 2) 1 h, ← e)
 
-  pub present_meets : (length c % 2 ≡ 1 → ⊥) → 0 ≡ sheet_refusal 4096 r c → {empty meets answer : Bool} {bounds : Rect64}
-      → empty ≡ is_empty r → meets ≡ intersects r bounds → bounds ≡ get_bounds_path (points_of c) → (not empty && meets) ≡ answer → (if answer then yes else no) ≡ is_present r c
-  present_meets h e f g b t =
-      sym (ap (λ (x : Bool). if x then yes else no) t) ∙ (λ i. if not (f i) && (g ∙ ap (intersects r) b) i then yes else no) ∙ present_told h e
+  pub present_meets : (length c % 2 ≡ 1 → ⊥) → 0 ≡ sheet_refusal 4096 r c → {empty meets : Bool} {bounds : Rect64}
+      → empty ≡ is_empty r → meets ≡ intersects r bounds → bounds ≡ get_bounds_path (points_of c) → presence (Ok (not empty && meets)) ≡ is_present r c
+  present_meets h e f g b = rw (f, g, b) (said _ ∙ present_told h e)
+    where
+      said : (t : Bool) → presence (Ok t) ≡ (if t then yes else no)
+      said true = refl
+      said false = refl
 
 -- no refusal has the number 0
 pub number_not_zero : (why : Refusal) → eqb (number why) 0 ≡ false

@@ -14,47 +14,45 @@ const MAX_ROOM: usize = 65536;
 
 const MAX_ALLOWANCE: usize = 65535;
 
-// A call that is let through, with its path's bounds, or why it is not.
-#[derive(Clone, Copy)]
-pub enum Admission {
-    Admitted(Rect64),
-    Refused(Refusal),
-}
-
-// Refusals 5, 6 and 7 of a path whose coordinates come in pairs.
-pub(crate) fn admit_sheet(rect: Rect64, path: &[i64]) -> Admission
+// Refusals 5, 6 and 7 of a path whose coordinates come in pairs, or the path's bounds.
+pub(crate) fn admit_sheet(rect: Rect64, path: &[i64]) -> Result<Rect64, Refusal>
     requires { length path.now % 2 ≡ 0 }
     ensures { checked result ≡ admission (sheet_refusal 4096 rect path.now) path.now }
 {
     if MAX_POINTS < path.len() / 2 {
-        return Admission::Refused(Refusal::PathTooLong);
+        return Err(Refusal::PathTooLong);
     }
     if !rect.in_limit() {
-        return Admission::Refused(Refusal::RectangleOutside);
+        return Err(Refusal::RectangleOutside);
     }
     let seen = survey(path);
     if !seen.in_limit {
-        return Admission::Refused(Refusal::PathOutside);
+        return Err(Refusal::PathOutside);
     }
-    let bounds = seen.bounds;
-    Admission::Admitted(bounds)
+    Ok(seen.bounds)
 }
 
-// Refusals 1 to 7: for a store with room for so many points, a turn allowance, and a work list of so many numbers.
-pub fn admit(rect: Rect64, path: &[i64], room: usize, allowance: usize, cells: usize) -> Admission
+// Refusals 1 to 7, or the path's bounds: for a store with room for so many points, a turn allowance, and a work list of so many numbers.
+pub fn admit(
+    rect: Rect64,
+    path: &[i64],
+    room: usize,
+    allowance: usize,
+    cells: usize,
+) -> Result<Rect64, Refusal>
     ensures { checked result ≡ admission (early_refusal room allowance cells rect path.now) path.now }
 {
     if path.len() % 2 == 1 {
-        return Admission::Refused(Refusal::OddCoordinates);
+        return Err(Refusal::OddCoordinates);
     }
     if MAX_ROOM < room {
-        return Admission::Refused(Refusal::StoreTooLong);
+        return Err(Refusal::StoreTooLong);
     }
     if MAX_ALLOWANCE < allowance {
-        return Admission::Refused(Refusal::AllowanceTooLarge);
+        return Err(Refusal::AllowanceTooLarge);
     }
     if cells < 16 * (room + allowance + 1) {
-        return Admission::Refused(Refusal::WorkTooShort);
+        return Err(Refusal::WorkTooShort);
     }
     admit_sheet(rect, path)
 }

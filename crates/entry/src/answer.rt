@@ -1,46 +1,34 @@
 // What the entries answer.
 ghost use Rattle.std.specs.Prelude.{◌≡◌};
-ghost use Rattle.entry.specs.Answers.{number};
+ghost use Rattle.entry.specs.Answers.{number, value};
 
 // Why a call is refused, in the order of the numbers 1 to 12; 9 is not used.
-#[derive(Clone, Copy)]
+#[derive(Clone, Copy, PartialEq, Eq)]
 pub enum Refusal {
-    OddCoordinates,
-    StoreTooLong,
-    AllowanceTooLarge,
-    WorkTooShort,
-    PathTooLong,
-    RectangleOutside,
-    PathOutside,
-    StoreFull,
-    TurnsSpent,
-    ListsTooShort,
-    UnreadableLine,
+    OddCoordinates = 1,
+    StoreTooLong = 2,
+    AllowanceTooLarge = 3,
+    WorkTooShort = 4,
+    PathTooLong = 5,
+    RectangleOutside = 6,
+    PathOutside = 7,
+    StoreFull = 8,
+    TurnsSpent = 10,
+    ListsTooShort = 11,
+    UnreadableLine = 12,
 }
 
 impl Refusal {
-    // Document 01's number.
+    // Document 01's number; a method and no `From`, since `u32::from(why)` would not say which number it is.
     pub fn number(self) -> u32
         ensures { result ≡ number self }
     {
-        match self {
-            Refusal::OddCoordinates => 1,
-            Refusal::StoreTooLong => 2,
-            Refusal::AllowanceTooLarge => 3,
-            Refusal::WorkTooShort => 4,
-            Refusal::PathTooLong => 5,
-            Refusal::RectangleOutside => 6,
-            Refusal::PathOutside => 7,
-            Refusal::StoreFull => 8,
-            Refusal::TurnsSpent => 10,
-            Refusal::ListsTooShort => 11,
-            Refusal::UnreadableLine => 12,
-        }
+        self as u32
     }
 }
 
 // How many paths and points a result has, and how many turns it took.
-#[derive(Clone, Copy)]
+#[derive(Clone, Copy, PartialEq, Eq)]
 pub struct Counts {
     pub paths: u32,
     pub points: u32,
@@ -48,16 +36,14 @@ pub struct Counts {
 }
 
 // What a clipper answers.
-#[derive(Clone, Copy)]
-pub enum Answer {
-    Drawn(Counts),
-    Refused(Refusal),
-}
+pub type Answer = Result<Counts, Refusal>;
 
-// What `present` answers.
-#[derive(Clone, Copy)]
-pub enum Presence {
-    Refused(Refusal),
-    Present,
-    Absent,
+// The value of an exported function: 0 where nothing is refused, else the refusal's number.
+pub fn value(answer: Result<(), Refusal>) -> u32
+    ensures { result ≡ value answer }
+{
+    match answer {
+        Ok(()) => 0,
+        Err(why) => why.number(),
+    }
 }

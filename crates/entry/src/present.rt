@@ -3,24 +3,17 @@ ghost use Rattle.std.specs.Prelude.{◌≡◌};
 ghost use Rattle.reference.specs.Entry.{is_present};
 ghost use Rattle.entry.specs.Answers.{presence};
 
-use crate::admission::{Admission, admit_sheet};
-use crate::answer::{Presence, Refusal};
+use crate::admission::admit_sheet;
+use crate::answer::Refusal;
 use plane::rect::Rect64;
 
 // Refusals 1, 5, 6 and 7, or whether the path is present.
-pub fn present(rect: Rect64, path: &[i64]) -> Presence
+pub fn present(rect: Rect64, path: &[i64]) -> Result<bool, Refusal>
     ensures { presence result ≡ is_present rect path.now }
 {
     if path.len() % 2 == 1 {
-        return Presence::Refused(Refusal::OddCoordinates);
+        return Err(Refusal::OddCoordinates);
     }
-    match admit_sheet(rect, path) {
-        Admission::Refused(why) => Presence::Refused(why),
-        Admission::Admitted(bounds) => {
-            if !rect.is_empty() & rect.intersects(bounds) {
-                return Presence::Present;
-            }
-            Presence::Absent
-        }
-    }
+    let bounds = admit_sheet(rect, path)?;
+    Ok(!rect.is_empty() & rect.intersects(bounds))
 }

@@ -5,9 +5,9 @@ ghost use Rattle.plane.specs.Rectangle.{grown, no_bounds};
 ghost use Rattle.entry.specs.Survey.{survey};
 
 use plane::point::Point64;
-use plane::rect::{Rect64, max, min};
+use plane::rect::Rect64;
 
-// A path's bounds, and whether every coordinate is within the limit.
+// A path's bounds, which are promised of every path, so that this is no Option; and whether every coordinate is within the limit.
 #[derive(Clone, Copy)]
 pub struct Extent {
     pub bounds: Rect64,
@@ -19,10 +19,10 @@ fn no_bounds() -> Rect64
     ensures { result ≡ no_bounds }
 {
     Rect64 {
-        left: 9223372036854775807,
-        top: 9223372036854775807,
-        right: -9223372036854775808,
-        bottom: -9223372036854775808,
+        left: i64::MAX,
+        top: i64::MAX,
+        right: i64::MIN,
+        bottom: i64::MIN,
     }
 }
 
@@ -30,10 +30,10 @@ fn no_bounds() -> Rect64
 fn grown(s: Rect64, p: Point64) -> Rect64
     ensures { result ≡ grown s p }
 {
-    let left = min(p.x, s.left);
-    let top = min(p.y, s.top);
-    let right = max(p.x, s.right);
-    let bottom = max(p.y, s.bottom);
+    let left = s.left.min(p.x);
+    let top = s.top.min(p.y);
+    let right = p.x.max(s.right);
+    let bottom = p.y.max(s.bottom);
     Rect64 {
         left,
         top,
@@ -48,12 +48,10 @@ pub fn survey(path: &[i64]) -> Extent
     ensures { result ≡ survey (points_of path.now) }
 {
     let mut bounds = no_bounds();
-    let mut i: usize = 0;
-    while i + 1 < path.len() {
-        let x = path[i];
-        let y = path[i + 1];
-        bounds = grown(bounds, Point64 { x, y });
-        i += 2;
+    let mut rest = path;
+    while let [x, y, behind @ ..] = rest {
+        bounds = grown(bounds, Point64 { x: *x, y: *y });
+        rest = behind;
     }
     if path.len() < 2 {
         return Extent {

@@ -1,7 +1,6 @@
 // One shelf outline clipped to an owner's rectangle; prints the returned path.
 #![tactic(auto)]
 
-use entry::answer::Answer;
 use entry::part::filled;
 use plane::rect::Rect64;
 use rectclip::rect_clip::RectClip64;
@@ -25,13 +24,13 @@ fn main(rt: HostRuntime) -> io::Result<()> {
         &mut lengths,
     );
     match answer {
-        Answer::Drawn(counts) => {
+        Ok(counts) => {
             let part = filled(&mut coordinates, counts.points as usize);
-            let n = write_path(true, 1, part, &mut line);
+            let n = write_path(true, 1, part, &mut line).unwrap_or(0);
             rt.write_all(&line[..n])
         }
-        Answer::Refused(why) => {
-            let n = write_refusal(1, why.number() as i64, &mut line);
+        Err(why) => {
+            let n = write_refusal(1, why.number() as i64, &mut line).unwrap_or(0);
             rt.write_all(&line[..n])
         }
     }

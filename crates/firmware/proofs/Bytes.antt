@@ -8,7 +8,7 @@ use lib.ListN.{length, take, drop, get_or, set, length-append, length-drop, leng
 use lib.Seq.{sets, sets-eq, take-suc, take_at, drop_at, drop-drop, take_all, length-take-le}
 use lib.IntN.{ℤ, pos}
 use Rattle.reference.specs.Entry.{filled}
-use Rattle.reference.specs.Exported.{word, signed, bits, words, read_words}
+use Rattle.reference.specs.Exported.{word, signed, words, read_words}
 use Rattle.firmware.specs.Words.{word_at}
 
 -- ---- bytes that are put
@@ -59,9 +59,9 @@ module _ {ns before out : List ℕ} {i : ℕ} (s : PutTo ns before out i) where
   pub put_room : i < length ns → 4 * i + 4 ≤ length out
   put_room h = omega (arith, put_length, s.room)
 
-  pub put_again : {n : ℕ} {after : List ℕ} → i < length ns → n ≡ get_or ns i 0 → after ≡ sets out (4 * i) (word n) → PutTo ns before after (i + 1)
-  put_again {n} {after} h e a =
-      let one : take (i + 1) ns ≡ take i ns ++ n ∷ [] = ap (λ (k : ℕ). take k ns) (add-one i) ∙ take-suc ns i 0 h ∙ ap (λ (k : ℕ). take i ns ++ k ∷ []) (sym e) in
+  pub put_again : (d : ℕ) {n : ℕ} {after : List ℕ} → i < length ns → n ≡ get_or ns i d → after ≡ sets out (4 * i) (word n) → PutTo ns before after (i + 1)
+  put_again d {n} {after} h e a =
+      let one : take (i + 1) ns ≡ take i ns ++ n ∷ [] = ap (λ (k : ℕ). take k ns) (add-one i) ∙ take-suc ns i d h ∙ ap (λ (k : ℕ). take i ns ++ k ∷ []) (sym e) in
       record {
         goal =
             a ∙ ap (λ (l : List ℕ). sets l (4 * i) (word n)) s.goal
@@ -74,19 +74,20 @@ module _ {ns before out : List ℕ} {i : ℕ} (s : PutTo ns before out i) where
   pub put_end : length ns ≤ i → out ≡ filled (words ns) before
   put_end h = s.goal ∙ ap (λ (l : List ℕ). filled (words l) before) (take_all i ns h)
 
--- the same for coordinates as 32 bits
-module _ (cs : List ℤ) {before out : List ℕ} {i : ℕ} (s : PutTo (map bits cs) before out i) where
-  pub coordinate_room : i < length cs → 4 * i + 4 ≤ length out
-  coordinate_room h = put_room s (omega (arith, length-map cs bits))
+-- the same for what numbers stand for
+module _ {A : Type 0} (low : A → ℕ) (xs : List A) where
+  pub items_start : {before : List ℕ} → 4 * length xs ≤ length before → PutTo (map low xs) before before 0
+  items_start {before} h = put_start (map low xs) before (omega (arith, length-map xs low))
 
-  pub coordinate_again : {n : ℕ} {after : List ℕ} → i < length cs → n ≡ bits (get_or cs i (pos 0)) → after ≡ sets out (4 * i) (word n) → PutTo (map bits cs) before after (i + 1)
-  coordinate_again h e a = put_again s (omega (arith, length-map cs bits)) (e ∙ sym (get_or-map bits cs i (pos 0))) a
+  module _ {before out : List ℕ} {i : ℕ} (s : PutTo (map low xs) before out i) where
+    pub item_room : i < length xs → 4 * i + 4 ≤ length out
+    item_room h = put_room s (omega (arith, length-map xs low))
 
-  pub coordinates_end : length cs ≤ i → out ≡ filled (words (map bits cs)) before
-  coordinates_end h = put_end s (omega (arith, length-map cs bits))
+    pub item_again : {x : A} {n : ℕ} {after : List ℕ} → i < length xs → x ≡ get_or xs i x → n ≡ low x → after ≡ sets out (4 * i) (word n) → PutTo (map low xs) before after (i + 1)
+    item_again {x} h ex en a = put_again s (low x) (omega (arith, length-map xs low)) (en ∙ ap low ex ∙ sym (get_or-map low xs i x)) a
 
-pub coordinates_start : (cs : List ℤ) (before : List ℕ) → 4 * length cs ≤ length before → PutTo (map bits cs) before before 0
-coordinates_start cs before h = put_start (map bits cs) before (omega (arith, length-map cs bits))
+    pub items_end : length xs ≤ i → out ≡ filled (words (map low xs)) before
+    items_end h = put_end s (omega (arith, length-map xs low))
 
 -- ---- bytes that are read
 pub read_length : (bytes : List ℕ) → length (read_words bytes) ≡ length bytes / 4

@@ -1,6 +1,6 @@
 -- What is sent of a clipper's answer is the definition's `exported`: the checks before it are the same, and a call leaves its drawing in the
 -- lists, which have room for every one. Assumes nothing.
-use Rattle.std.specs.Prelude.{if◌then◌else◌}
+use Rattle.std.specs.Prelude.{if◌then◌else◌, Result}
 use mathlib.Core.Path.{◌≡◌, refl, ◌∙◌, ap}
 use mathlib.Core.Bool.{Bool, true, false, not}
 use mathlib.Core.List.{List}
@@ -14,7 +14,8 @@ use borrow.Author.Tests.{lt-ltb, ltb-true, ltb-false, eqb-true, ne_eqb}
 use Rattle.plane.specs.declared.rect.Rect64.{Rect64}
 use Rattle.reference.specs.Entry.{Outcome, filled, sheet_refusal}
 use Rattle.reference.specs.Exported.{Bytes, read_words, exported}
-use Rattle.entry.specs.declared.answer.Answer.{Answer}
+use Rattle.entry.specs.declared.answer.Counts.{Counts}
+use Rattle.entry.specs.declared.answer.Refusal.{Refusal}
 use Rattle.entry.specs.Answers.{outcome}
 use Rattle.rectclip.specs.Promises.{Leaves, ReturnedBy}
 use Rattle.handheld.specs.Called.{called}
@@ -85,7 +86,7 @@ read_fits bytes l e = omega (arith, ap length e, length-append (read_words bytes
 pub part_read : (bytes : List ℕ) (l : List ℤ) → take (length bytes / 4) (filled (read_words bytes) l) ≡ read_words bytes
 part_read bytes l = take_at (read_words bytes) (drop (length (read_words bytes)) l) (length bytes / 4) (read_length bytes)
 
-module _ (bytes : List ℕ) (e : path_refusal bytes ≡ 0) (closed : Bool) (R : Rect64) (path results : List ℤ) (numbers : List ℕ) {r : Answer} {results' : List ℤ} {numbers' : List ℕ}
+module _ (bytes : List ℕ) (e : path_refusal bytes ≡ 0) (closed : Bool) (R : Rect64) (path results : List ℤ) (numbers : List ℕ) {r : Result Counts Refusal} {results' : List ℤ} {numbers' : List ℕ}
     (p : path ≡ read_words bytes) (a : length results ≡ 512) (b : length numbers ≡ 257) (h : Leaves (called closed R path results numbers) r results' numbers') where
   left : ◌≡◌ {A = Outcome × List ℤ × List ℕ} (outcome r, results', numbers') (handed results numbers (clipped closed R path))
   left = hands_over closed R path results numbers r results' numbers' (rw p (few bytes e)) a b h

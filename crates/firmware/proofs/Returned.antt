@@ -15,8 +15,9 @@ use Rattle.plane.specs.Points.{points_of, coordinates_of}
 use Rattle.reference.specs.Entry.{Drawing, Outcome, refused, drawn, joined, filled, filled_part}
 use Rattle.reference.specs.Exported.{Bytes, bits, words, read_words}
 use Rattle.theorems.specs.Demand.{Exactness}
-use Rattle.entry.specs.declared.answer.Answer.{Answer}
-use Rattle.entry.specs.declared.answer.Answer.TheVariants.{Drawn, Refused}
+use Rattle.std.specs.Prelude.{Result, Ok, Err}
+use Rattle.entry.specs.declared.answer.Counts.{Counts}
+use Rattle.entry.specs.declared.answer.Refusal.{Refusal}
 use Rattle.entry.specs.Answers.{outcome}
 use Rattle.entry.proofs.Sheets.{number_not_zero}
 use Rattle.rectclip.specs.Promises.{Returned, ReturnedBy}
@@ -84,10 +85,10 @@ module _ (closed : Bool) (R : Rect64) (path results : List ℤ) (numbers c l k :
 
 -- ---- an answer; a refusal has no value 0
 module _ (closed : Bool) (R : Rect64) (path results0 results : List ℤ) (numbers0 numbers c l k : List ℕ) {c' l' k' : List ℕ} {v : ℕ} where
-  pub answer_returned : (r : Answer) → ◌≡◌ {A = Outcome × List ℤ × List ℕ} (outcome r, results, numbers) (handed results0 numbers0 (clipped closed R path)) → Sendable (outcome r) results numbers
+  pub answer_returned : (r : Result Counts Refusal) → ◌≡◌ {A = Outcome × List ℤ × List ℕ} (outcome r, results, numbers) (handed results0 numbers0 (clipped closed R path)) → Sendable (outcome r) results numbers
       → ReturnedBy closed R path r results numbers → ◌≡◌ {A = Bytes} (v, c', l', k') (sent (outcome r) results numbers c l k)
       → (bytes : List ℕ) → path ≡ read_words bytes → v ≡ 0 → ReturnedBytes closed R bytes c' l' k'
-  answer_returned (Drawn x) left s h e bytes p z =
+  answer_returned (Ok x) left s h e bytes p z =
       let t = subst Readable (sym left) (readable closed R path results0 numbers0 (clipped closed R path) refl) in
       result_returned closed R path results numbers c l k x.paths x.points x.turns (h x refl) s t e z bytes p
-  answer_returned (Refused why) left s h e bytes p z = absurd (eqb-false _ 0 (number_not_zero why) (sym (ap (λ (x : Bytes). x.0) e) ∙ z))
+  answer_returned (Err why) left s h e bytes p z = absurd (eqb-false _ 0 (number_not_zero why) (sym (ap (λ (x : Bytes). x.0) e) ∙ z))

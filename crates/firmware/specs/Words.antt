@@ -1,11 +1,6 @@
 -- Words of the functions over bytes.
-use Rattle.std.specs.Prelude.{◌≡◌, List, ℕ, ◌+◌, ◌*◌, ◌≤◌, get_or, ℤ}
+use Rattle.std.specs.Prelude.{List, ℕ, ◌+◌, ◌*◌, get_or, ℤ}
 use Rattle.reference.specs.Exported.{signed}
-
--- a byte's number
-pub record Byte (b r : ℕ) : Type 0 where
-  pub is : r ≡ b
-  pub small : r ≤ 255
 
 -- the signed number in four bytes of a list
 abbrev pub word_at : List ℕ → ℕ → ℤ

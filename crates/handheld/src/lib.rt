@@ -6,8 +6,7 @@ ghost use Rattle.rectclip.specs.Promises.{Leaves, ReturnedBy};
 
 use entry::answer::Answer;
 use plane::rect::Rect64;
-use rectclip::lines::RectClipLines64;
-use rectclip::rect_clip::RectClip64;
+use rectclip::clip;
 
 // One path, closed or open; the paths that a result returns have demand 3.
 pub fn clip(
@@ -22,10 +21,14 @@ pub fn clip(
 {
     let mut store = [0i64; 512];
     let mut work = [0u32; 8208];
-    if closed {
-        let clipper = RectClip64::new(rect);
-        return clipper.execute(path, 256, &mut store, &mut work, coordinates, lengths);
-    }
-    let clipper = RectClipLines64::new(rect);
-    clipper.execute(path, &mut store, &mut work, coordinates, lengths)
+    clip::clip(
+        closed,
+        256,
+        rect,
+        path,
+        &mut store,
+        &mut work,
+        coordinates,
+        lengths,
+    )
 }

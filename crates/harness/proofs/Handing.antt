@@ -11,36 +11,15 @@ use borrow.Author.Tests.{le-ltb, lt-ltb, ltb-false, eqb-false}
 use Rattle.plane.specs.declared.rect.Rect64.{Rect64}
 use Rattle.plane.specs.Basics.{Try, refuse, ok}
 use Rattle.plane.specs.Points.{coordinates_of}
-use Rattle.reference.specs.Entry.{is_present, filled, Outcome, refused, drawn, Lent, After, Drawing, joined, delivered, answered, clip_open, clip_closed, clip_path}
-use Rattle.entry.specs.declared.answer.Presence.{Presence}
+use Rattle.reference.specs.Entry.{filled, Outcome, refused, drawn, Lent, After, Drawing, joined, delivered, answered, clip_open, clip_closed, clip_path}
 use Rattle.entry.specs.declared.answer.Refusal.{Refusal}
-use Rattle.entry.specs.declared.answer.Refusal.TheVariants.{OddCoordinates, StoreTooLong, AllowanceTooLarge, WorkTooShort, PathTooLong, RectangleOutside, PathOutside, StoreFull, TurnsSpent, ListsTooShort, UnreadableLine}
-use Rattle.entry.specs.declared.answer.Answer.{Answer}
-use Rattle.entry.specs.declared.answer.Answer.TheVariants.{Drawn, Refused}
-use Rattle.entry.specs.Answers.{presence, number, outcome}
+use Rattle.std.specs.Prelude.{Result, Ok, Err}
+use Rattle.entry.specs.declared.answer.Counts.{Counts}
+use Rattle.entry.specs.Answers.{number, outcome}
 use Rattle.entry.proofs.Sheets.{number_not_zero}
 use Rattle.rectclip.specs.Promises.{lent, Clips, Returned, ReturnedBy}
-use Rattle.harness.specs.Values.{presence_value, Exported, counted_by, counted, uncounted_value, Counted, Hands, ReturnedAt}
+use Rattle.harness.specs.Values.{Exported, counted_by, counted, uncounted_value, Counted, Hands, ReturnedAt}
 use Rattle.theorems.proofs.Tests.{neither}
-
--- the value of `present`, where its answer is q
-pub present_value : (p q : Presence) (R R' : Rect64) (path : List ℤ) → presence p ≡ is_present R path → R ≡ R' → p ≡ q
-    → presence_value (presence q) ≡ presence_value (is_present R' path)
-present_value p q R R' path e n t = ap (λ x. presence_value (presence x)) (sym t) ∙ ap presence_value (e ∙ ap (λ r. is_present r path) n)
-
--- a refusal's number is at most 12
-pub number_small : (r : Refusal) → number r ≤ 12
-number_small OddCoordinates = omega arith
-number_small StoreTooLong = omega arith
-number_small AllowanceTooLarge = omega arith
-number_small WorkTooShort = omega arith
-number_small PathTooLong = omega arith
-number_small RectangleOutside = omega arith
-number_small PathOutside = omega arith
-number_small StoreFull = omega arith
-number_small TurnsSpent = omega arith
-number_small ListsTooShort = omega arith
-number_small UnreadableLine = omega arith
 
 -- three numbers stored at the front fill it
 pub three_stored : (l : List ℕ) (a b c : ℕ) → 3 ≤ length l → set (set (set l 0 a) 1 b) 2 c ≡ filled (a ∷ b ∷ c ∷ []) l
@@ -58,7 +37,7 @@ module _ (before : Lent) {after : Lent} (counts : List ℕ) {counts' : List ℕ}
   hands_by (refused n) lists k e c l s w = record { value = k.value; coordinates = c; lengths = l; store = s; work = w; counts = k.list }
   hands_by (drawn p q t) lists k e c l s w = rw e (record { value = k.value; coordinates = c; lengths = l; store = s; work = w; counts = k.list })
 
-  pub hands_counted : (a : After) {r : Answer} → Clips a r after → Counted (outcome r) counts v counts' → 3 ≤ length counts → Hands (counted before counts a) v after counts'
+  pub hands_counted : (a : After) {r : Result Counts Refusal} → Clips a r after → Counted (outcome r) counts v counts' → 3 ≤ length counts → Hands (counted before counts a) v after counts'
   unfolding counted
   hands_counted a k n h = hands_by a.answer a.lists (rw k.answer at n) (le-ltb _ _ h) k.coordinates k.lengths k.store k.work
 
@@ -120,7 +99,7 @@ module _ (l : Lent) (counts : List ℕ) (h : ltb (length counts) 3 ≡ true) whe
   uncounted_clip false A R path = uncounted_is _ _
 
 -- what a clipper that was lent no room for a result leaves, handed over
-pub hands_uncounted : (closed : Bool) (A : ℕ) (R : Rect64) (path : List ℤ) (l : Lent) (counts : List ℕ) → length counts < 3 → {after : Lent} {r : Answer} {v : ℕ}
+pub hands_uncounted : (closed : Bool) (A : ℕ) (R : Rect64) (path : List ℤ) (l : Lent) (counts : List ℕ) → length counts < 3 → {after : Lent} {r : Result Counts Refusal} {v : ℕ}
     → Clips (clip_path closed A R path (bare l)) r after → v ≡ uncounted_value (outcome r)
     → Hands (counted l counts (clip_path closed A R path l)) v (lent (after.coordinates ++ l.coordinates) (after.lengths ++ l.lengths) after.store after.work) counts
 hands_uncounted closed A R path l counts h k n =
@@ -141,11 +120,11 @@ refused_value why e z = eqb-false (number why) 0 (number_not_zero why) (sym e �
 
 module _ (closed : Bool) (R : Rect64) (path coordinates : List ℤ) (lengths : List ℕ) where
   -- with room for the counts
-  pub returned_counted : (counts : List ℕ) (r : Answer) {v : ℕ} {counts' : List ℕ} → ReturnedBy closed R path r coordinates lengths → Counted (outcome r) counts v counts' → ReturnedAt closed R path v coordinates lengths counts'
-  returned_counted counts (Drawn c) h k z = subst (λ (l : List ℕ). Returned closed R path (get_or l 0 0) (get_or l 1 0) coordinates lengths) (sym k.list) (h c refl)
-  returned_counted counts (Refused why) h k z = absurd (refused_value why k.value z)
+  pub returned_counted : (counts : List ℕ) (r : Result Counts Refusal) {v : ℕ} {counts' : List ℕ} → ReturnedBy closed R path r coordinates lengths → Counted (outcome r) counts v counts' → ReturnedAt closed R path v coordinates lengths counts'
+  returned_counted counts (Ok c) h k z = subst (λ (l : List ℕ). Returned closed R path (get_or l 0 0) (get_or l 1 0) coordinates lengths) (sym k.list) (h c refl)
+  returned_counted counts (Err why) h k z = absurd (refused_value why k.value z)
 
   -- without: no result
-  pub returned_uncounted : (counts : List ℕ) (r : Answer) {v : ℕ} → v ≡ uncounted_value (outcome r) → ReturnedAt closed R path v coordinates lengths counts
-  returned_uncounted counts (Drawn c) e z = absurd (omega arith)
-  returned_uncounted counts (Refused why) e z = absurd (refused_value why e z)
+  pub returned_uncounted : (counts : List ℕ) (r : Result Counts Refusal) {v : ℕ} → v ≡ uncounted_value (outcome r) → ReturnedAt closed R path v coordinates lengths counts
+  returned_uncounted counts (Ok c) e z = absurd (omega arith)
+  returned_uncounted counts (Err why) e z = absurd (refused_value why e z)

@@ -1,18 +1,17 @@
 // The clippers as a static library over plain numbers and lists of any length: for measuring and comparing only.
 #![tactic(auto)]
 
-ghost use Rattle.std.specs.Prelude.{◌≡◌, true, false, ◌≤◌, length};
+ghost use Rattle.std.specs.Prelude.{◌≡◌, true, false};
 ghost use Rattle.plane.specs.Rectangle.{rect};
 ghost use Rattle.reference.specs.Entry.{clip_path, is_present};
-ghost use Rattle.rectclip.specs.Promises.{lent, ClipsPath};
-ghost use Rattle.entry.specs.Answers.{outcome};
-ghost use Rattle.harness.specs.Values.{presence_value, uncounted_value, counted, Counted, Hands, ReturnedAt};
+ghost use Rattle.rectclip.specs.Promises.{lent};
+ghost use Rattle.entry.specs.Answers.{value};
+ghost use Rattle.harness.specs.Values.{presence_value, counted, Hands, ReturnedAt};
 
-use entry::answer::{Answer, Presence};
+use entry::answer::{Refusal, value};
 use entry::present::present;
 use plane::rect::Rect64;
-use rectclip::lines::RectClipLines64;
-use rectclip::rect_clip::RectClip64;
+use rectclip::clip::clip;
 
 // 0 no, 1 yes, 100 and the number for a refusal.
 #[unsafe(no_mangle)]
@@ -20,9 +19,8 @@ pub extern "C" fn harness_present(left: i64, top: i64, right: i64, bottom: i64, 
     ensures { result ≡ presence_value (is_present (rect left top right bottom) path.now) }
 {
     match present(Rect64::new(left, top, right, bottom), path) {
-        Presence::Absent => 0,
-        Presence::Present => 1,
-        Presence::Refused(r) => 100 + r.number(),
+        Ok(present) => u32::from(present),
+        Err(why) => 100 + why.number(),
     }
 }
 
@@ -44,7 +42,7 @@ pub extern "C" fn harness_rect_clip_lines64(
     ensures returned { ReturnedAt false (rect left top right bottom) path.now result coordinates.new lengths.new counts.new }
 {
     let rect = Rect64::new(left, top, right, bottom);
-    clip_counted(
+    value(clip_counted(
         false,
         0,
         rect,
@@ -54,7 +52,7 @@ pub extern "C" fn harness_rect_clip_lines64(
         coordinates,
         lengths,
         counts,
-    )
+    ))
 }
 
 // `RectClip64::execute`, with the turn allowance: otherwise as the line clipper's.
@@ -76,7 +74,7 @@ pub extern "C" fn harness_rect_clip64(
     ensures returned { ReturnedAt true (rect left top right bottom) path.now result coordinates.new lengths.new counts.new }
 {
     let rect = Rect64::new(left, top, right, bottom);
-    clip_counted(
+    value(clip_counted(
         true,
         allowance,
         rect,
@@ -86,32 +84,10 @@ pub extern "C" fn harness_rect_clip64(
         coordinates,
         lengths,
         counts,
-    )
+    ))
 }
 
-// The clipper of the path's kind; an open path takes no turns.
-fn clip(
-    closed: bool,
-    allowance: u32,
-    rect: Rect64,
-    path: &[i64],
-    store: &mut [i64],
-    work: &mut [u32],
-    coordinates: &mut [i64],
-    lengths: &mut [u32],
-) -> Answer
-    ensures { ClipsPath closed allowance rect path.now (lent coordinates.old lengths.old store.old work.old) result (lent coordinates.new lengths.new store.new work.new) }
-{
-    if closed {
-        let clipper = RectClip64::new(rect);
-        return clipper.execute(path, allowance, store, work, coordinates, lengths);
-    }
-    let clipper = RectClipLines64::new(rect);
-    clipper.execute(path, store, work, coordinates, lengths)
-}
-
-// 0 or the refusal's number; on 0 the first three counts are paths, points and turns. Where they have no place, the clipper is lent no
-// room for a result.
+// On a result the first three counts are paths, points and turns. Where they have no place, the clipper is lent no room for a result.
 fn clip_counted(
     closed: bool,
     allowance: u32,
@@ -122,12 +98,12 @@ fn clip_counted(
     coordinates: &mut [i64],
     lengths: &mut [u32],
     counts: &mut [u32],
-) -> u32
-    ensures hands { Hands (counted (lent coordinates.old lengths.old store.old work.old) counts.old (clip_path closed allowance rect path.now (lent coordinates.old lengths.old store.old work.old))) result (lent coordinates.new lengths.new store.new work.new) counts.new }
-    ensures returned { ReturnedAt closed rect path.now result coordinates.new lengths.new counts.new }
+) -> Result<(), Refusal>
+    ensures hands { Hands (counted (lent coordinates.old lengths.old store.old work.old) counts.old (clip_path closed allowance rect path.now (lent coordinates.old lengths.old store.old work.old))) (value result) (lent coordinates.new lengths.new store.new work.new) counts.new }
+    ensures returned { ReturnedAt closed rect path.now (value result) coordinates.new lengths.new counts.new }
 {
     if counts.len() < 3 {
-        let answer = clip(
+        clip(
             closed,
             allowance,
             rect,
@@ -136,10 +112,10 @@ fn clip_counted(
             work,
             &mut coordinates[..0],
             &mut lengths[..0],
-        );
-        return uncounted(answer);
+        )?;
+        return Err(Refusal::ListsTooShort);
     }
-    let answer = clip(
+    let drawn = clip(
         closed,
         allowance,
         rect,
@@ -148,32 +124,9 @@ fn clip_counted(
         work,
         coordinates,
         lengths,
-    );
-    hand_over(answer, counts)
-}
-
-// The value where the counts have no place.
-fn uncounted(answer: Answer) -> u32
-    ensures { result ≡ uncounted_value (outcome answer) }
-{
-    match answer {
-        Answer::Drawn(_) => 11,
-        Answer::Refused(r) => r.number(),
-    }
-}
-
-// The value, with the counts of a result in their list.
-fn hand_over(answer: Answer, counts: &mut [u32]) -> u32
-    requires { 3 ≤ length counts.old }
-    ensures { Counted (outcome answer) counts.old result counts.new }
-{
-    match answer {
-        Answer::Drawn(c) => {
-            counts[0] = c.paths;
-            counts[1] = c.points;
-            counts[2] = c.turns;
-            0
-        }
-        Answer::Refused(r) => r.number(),
-    }
+    )?;
+    counts[0] = drawn.paths;
+    counts[1] = drawn.points;
+    counts[2] = drawn.turns;
+    Ok(())
 }

@@ -1,6 +1,6 @@
--- `Sides`: the side order's numbers. `Halves`: halves of sums, toward zero. `Limits`: a rectangle within the coordinate limit.
+-- `Fitting`: coordinates that fit 64 bits. `Equality`: what the derived `==` answers. `Limits`: a rectangle within the coordinate limit.
 -- `CrossProduct`: the binary64 cross product.
-pub mod Sides
-pub mod Halves
+pub mod Fitting
+pub mod Equality
 pub mod Limits
 pub mod CrossProduct

@@ -1,7 +1,8 @@
 -- `get_segment_intersection` and `get_intersection` of rectclip.rs: the crossing of a segment with an edge, and the search over the edges.
 -- Beside them stand the two steps of document 02, 2/13, which the Rust does not have.
-use Rattle.std.specs.Prelude.{◌||◌, ℕ, ℤ, pos, if◌then◌else◌}
+use Rattle.std.specs.Prelude.{◌||◌, ℕ, ℤ, pos, if◌then◌else◌, Option, None, Some}
 use Rattle.std.specs.Bool.{beq}
+use Rattle.std.specs.Option.{option_map, option_or, unwrap_or}
 use Rattle.std.specs.Int.Signed.{lt_z}
 use Rattle.integers.specs.Tests.{eq_z}
 use Rattle.plane.specs.Locations.{lower, upper}
@@ -9,10 +10,6 @@ use Rattle.plane.specs.Points.{point, same_point, pt_at}
 use Rattle.plane.specs.Rectangle.{max, min, as_path, beyond}
 use Rattle.plane.specs.Segment.{intersection}
 use Rattle.plane.specs.Signs.{cross_product_sign, is_horizontal}
-use Rattle.plane.specs.declared.crossing.Meeting.{Meeting}
-use Rattle.plane.specs.declared.crossing.Meeting.TheVariants.{Apart, Met}
-use Rattle.plane.specs.declared.crossing.Search.{Search}
-use Rattle.plane.specs.declared.crossing.Search.TheVariants.{Missed, Found}
 use Rattle.plane.specs.declared.crossing.SidePoint.{SidePoint}
 use Rattle.plane.specs.declared.location.Location.{Location}
 use Rattle.plane.specs.declared.location.Location.TheVariants.{Left, Top, Right, Bottom, Inside}
@@ -33,19 +30,18 @@ put_on_edge c d p =
     else point (held_between c.x d.x p.x) c.y
 
 -- on what `get_segment_intersect_pt` answers
-abbrev pub held_to_edge : Point64 → Point64 → Meeting → Meeting
-held_to_edge c d Apart = Apart
-held_to_edge c d (Met p) = Met (put_on_edge c d p)
+abbrev pub held_to_edge : Point64 → Point64 → Option Point64 → Option Point64
+held_to_edge c d met = option_map (put_on_edge c d) met
 
 -- `get_segment_intersection` of the segment from p1 to p2 with the edge from p3 to p4
 -- p, which is on the line through a and b, is a crossing where it lies between them
-unfoldable pub at_end : Point64 → Point64 → Point64 → Meeting
+unfoldable pub at_end : Point64 → Point64 → Point64 → Option Point64
 at_end p a b =
-    if same_point p a || same_point p b then Met p
-    else if is_horizontal a b then (if beq (lt_z a.x p.x) (lt_z p.x b.x) then Met p else Apart)
-    else (if beq (lt_z a.y p.y) (lt_z p.y b.y) then Met p else Apart)
+    if same_point p a || same_point p b then Some p
+    else if is_horizontal a b then (if beq (lt_z a.x p.x) (lt_z p.x b.x) then Some p else None)
+    else (if beq (lt_z a.y p.y) (lt_z p.y b.y) then Some p else None)
 
-unfoldable pub get_segment_intersection : Point64 → Point64 → Point64 → Point64 → Meeting
+unfoldable pub get_segment_intersection : Point64 → Point64 → Point64 → Point64 → Option Point64
 get_segment_intersection p1 p2 p3 p4 =
     let res1 = cross_product_sign p1 p3 p4 in
     let res2 = cross_product_sign p2 p3 p4 in
@@ -56,12 +52,12 @@ get_segment_intersection p1 p2 p3 p4 =
     let known3 = at_end p3 p1 p2 in
     let known4 = at_end p4 p1 p2 in
     let found = intersection p1 p2 p3 p4 in
-    if eq_z res1 (pos 0) then (if eq_z res2 (pos 0) then Apart else known1)
+    if eq_z res1 (pos 0) then (if eq_z res2 (pos 0) then None else known1)
     else if eq_z res2 (pos 0) then known2
-    else if beq (lt_z (pos 0) res1) (lt_z (pos 0) res2) then Apart
+    else if beq (lt_z (pos 0) res1) (lt_z (pos 0) res2) then None
     else if eq_z res3 (pos 0) then known3
     else if eq_z res4 (pos 0) then known4
-    else if beq (lt_z (pos 0) res3) (lt_z (pos 0) res4) then Apart
+    else if beq (lt_z (pos 0) res3) (lt_z (pos 0) res4) then None
     else found
 
 -- a side's edge runs from corner `edge_from` to corner `edge_to` of `as_path`
@@ -79,32 +75,34 @@ edge_to Right = 2
 edge_to Bottom = 3
 edge_to Inside = 0
 
+-- a find: a point, and its side
+abbrev pub found_at : Point64 → Location → Option SidePoint
+found_at q s = Some (record { point = q; side = s })
+
 -- `get_intersection` of the segment from p to p2 with the boundary
-abbrev pub met : Location → Meeting → Search
-met s Apart = Missed
-met s (Met q) = Found q s
+abbrev pub met : Location → Option Point64 → Option SidePoint
+met s point = option_map (λ q. record { point = q; side = s }) point
 
 -- with the edge of side s
-unfoldable pub edge_intersection : Rect64 → Location → Point64 → Point64 → Search
+unfoldable pub edge_intersection : Rect64 → Location → Point64 → Point64 → Option SidePoint
 edge_intersection r s p p2 =
     let a = pt_at (as_path r) (edge_from s) in
     let b = pt_at (as_path r) (edge_to s) in
     met s (get_segment_intersection p p2 a b)
 
 infixr 4 ◌or_else◌
-abbrev pub ◌or_else◌ : Search → Search → Search
-Found q s or_else other = Found q s
-Missed or_else other = other
+abbrev pub ◌or_else◌ : Option SidePoint → Option SidePoint → Option SidePoint
+found or_else other = option_or found other
 
 -- the side's own edge; the lower neighbour's, if p is beyond that; the upper neighbour's
-unfoldable pub side_intersection : Rect64 → Location → Point64 → Point64 → Search
+unfoldable pub side_intersection : Rect64 → Location → Point64 → Point64 → Option SidePoint
 side_intersection r s p p2 =
     let low = edge_intersection r (lower s) p p2 in
     edge_intersection r s p p2
-    or_else (if beyond r (lower s) p then low else Missed)
+    or_else (if beyond r (lower s) p then low else None)
     or_else edge_intersection r (upper s) p p2
 
-unfoldable pub get_intersection : Rect64 → Point64 → Point64 → Location → Search
+unfoldable pub get_intersection : Rect64 → Point64 → Point64 → Location → Option SidePoint
 get_intersection r p p2 Left = side_intersection r Left p p2
 get_intersection r p p2 Top = side_intersection r Top p p2
 get_intersection r p p2 Right = side_intersection r Right p p2
@@ -113,6 +111,5 @@ get_intersection r p p2 Inside =
     edge_intersection r Left p p2 or_else edge_intersection r Top p p2 or_else edge_intersection r Right p p2 or_else edge_intersection r Bottom p p2
 
 -- what a search found, or the point and the side that are given where it found nothing
-abbrev pub found_or : Search → Point64 → Location → SidePoint
-found_or Missed p s = record { point = p; side = s }
-found_or (Found q t) p s = record { point = q; side = t }
+abbrev pub found_or : Option SidePoint → Point64 → Location → SidePoint
+found_or found p s = unwrap_or found (record { point = p; side = s })

@@ -1,14 +1,12 @@
 -- `get_segment_intersect_pt` of core.rs: a segment's float working against an edge, the crossing, and the crossing's point.
 -- Each operation rounds once, none is fused.
-use Rattle.std.specs.Prelude.{cond, Float}
+use Rattle.std.specs.Prelude.{Float, if◌then◌else◌, Option, None, Some}
 use Rattle.std.specs.Float.{binary64}
 use Rattle.std.specs.Float.Ieee.{add, sub, mul, div, eq, le, to_signed}
 use Rattle.rounding.specs.Coordinate.{float, difference, zero_f, one_f}
 use Rattle.plane.specs.declared.crossing.Crossing.{Crossing}
-use Rattle.plane.specs.declared.crossing.Crossing.TheVariants.{Nothing, At, Along}
+use Rattle.plane.specs.declared.crossing.Crossing.TheVariants.{At, Along}
 use Rattle.plane.specs.declared.crossing.Working.{Working}
-use Rattle.plane.specs.declared.crossing.Meeting.{Meeting}
-use Rattle.plane.specs.declared.crossing.Meeting.TheVariants.{Apart, Met}
 use Rattle.plane.specs.declared.point.Point64.{Point64}
 
 -- the segment is from a to b, and the edge from c to d
@@ -33,8 +31,12 @@ working_of a b c d = record {
   t = fraction a b c d;
 }
 
-unfoldable pub crossing_of : Working → Point64 → Point64 → Crossing
-crossing_of w a b = cond (eq w.det zero_f) Nothing (cond (le w.t zero_f) (At a) (cond (le one_f w.t) (At b) (Along w.t)))
+unfoldable pub crossing_of : Working → Point64 → Point64 → Option Crossing
+crossing_of w a b =
+    if eq w.det zero_f then None
+    else if le w.t zero_f then Some (At a)
+    else if le one_f w.t then Some (At b)
+    else Some (Along w.t)
 
 -- the point at the fraction t, cut toward zero
 unfoldable pub point_at : Working → Float → Point64
@@ -43,12 +45,12 @@ point_at w t = record {
   y = to_signed 63 (add binary64 w.y (mul binary64 t w.dy));
 }
 
-abbrev pub settled_of : Crossing → Working → Meeting
-settled_of Nothing w = Apart
-settled_of (At p) w = Met p
-settled_of (Along t) w = Met (point_at w t)
+abbrev pub settled_of : Option Crossing → Working → Option Point64
+settled_of None w = None
+settled_of (Some (At p)) w = Some p
+settled_of (Some (Along t)) w = Some (point_at w t)
 
 -- `get_segment_intersect_pt` whole
-unfoldable pub intersection : Point64 → Point64 → Point64 → Point64 → Meeting
+unfoldable pub intersection : Point64 → Point64 → Point64 → Point64 → Option Point64
 unfolding working_of crossing_of point_at
 intersection a b c d = let w = working_of a b c d in settled_of (crossing_of w a b) w

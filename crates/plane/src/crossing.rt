@@ -1,14 +1,13 @@
-// A crossing of a segment and an edge, the record of its binary64 numbers, where the two meet, and what a search over the edges finds.
+// A crossing of a segment and an edge, the record of its binary64 numbers, and what a search over the edges finds.
 ghost use Rattle.std.specs.Prelude.{◌≡◌};
 ghost use Rattle.plane.specs.Intersection.{held_to_edge, found_or};
 
 use crate::location::Location;
 use crate::point::Point64;
 
-// A crossing before it is cut to whole numbers: none, one at a known point, or one at a fraction of the segment.
+// A crossing before it is cut to whole numbers: at a known point, or at a fraction of the segment.
 #[derive(Clone, Copy)]
 pub enum Crossing {
-    Nothing,
     At(Point64),
     Along(f64),
 }
@@ -24,47 +23,23 @@ pub struct Working {
     pub t: f64,
 }
 
-// What `get_segment_intersection` answers: the segment and the edge do not meet, or meet at a point of whole numbers.
-#[derive(Clone, Copy)]
-pub enum Meeting {
-    Apart,
-    Met(Point64),
-}
-
-// What `get_intersection` answers: nothing, or the crossing and its side.
-#[derive(Clone, Copy)]
-pub enum Search {
-    Missed,
-    Found(Point64, Location),
-}
-
 // A crossing, and its side.
-#[derive(Clone, Copy)]
+#[derive(Clone, Copy, PartialEq, Eq)]
 pub struct SidePoint {
     pub point: Point64,
     pub side: Location,
 }
 
-impl Meeting {
-    // The point that was met, put on the edge from c to d.
-    pub fn held_to_edge(self, c: Point64, d: Point64) -> Meeting
-        ensures { result ≡ held_to_edge c d self }
-    {
-        match self {
-            Meeting::Apart => Meeting::Apart,
-            Meeting::Met(p) => Meeting::Met(p.put_on_edge(c, d)),
-        }
-    }
+// The point that was met, put on the edge from c to d.
+pub fn held_to_edge(met: Option<Point64>, c: Point64, d: Point64) -> Option<Point64>
+    ensures { result ≡ held_to_edge c d met }
+{
+    met.map(|p| p.put_on_edge(c, d))
 }
 
-impl Search {
-    // What the search found, or what is given where it found nothing.
-    pub fn found_or(self, point: Point64, side: Location) -> SidePoint
-        ensures { result ≡ found_or self point side }
-    {
-        match self {
-            Search::Missed => SidePoint { point, side },
-            Search::Found(q, s) => SidePoint { point: q, side: s },
-        }
-    }
+// What the search found, or what is given where it found nothing.
+pub fn found_or(found: Option<SidePoint>, point: Point64, side: Location) -> SidePoint
+    ensures { result ≡ found_or found point side }
+{
+    found.unwrap_or(SidePoint { point, side })
 }

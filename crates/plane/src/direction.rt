@@ -32,7 +32,7 @@ pub fn has_horz_overlap(left1: Point64, right1: Point64, left2: Point64, right2:
     (left1.x < right2.x) & (left2.x < right1.x)
 }
 
-// Whether two stretches along y share more than a point.
+// Whether two stretches along y share more than a point. Two names of the Rust, of one line each: a function of four numbers would say no more.
 pub fn has_vert_overlap(top1: Point64, bottom1: Point64, top2: Point64, bottom2: Point64) -> bool
     ensures { result ≡ has_vert_overlap top1 bottom1 top2 bottom2 }
 {

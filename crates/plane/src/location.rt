@@ -1,9 +1,9 @@
 // Where a point lies, seen from the rectangle, and the directions along its boundary.
 ghost use Rattle.std.specs.Prelude.{◌≡◌, true, false};
 ghost use Rattle.plane.specs.Rectangle.{spot};
-ghost use Rattle.plane.specs.Locations.{side_number, side, same_location, is_inside, opposite, lower, upper, get_adjacent_location, heading_clockwise, are_opposites};
+ghost use Rattle.plane.specs.Locations.{side_number, side, is_inside, opposite, lower, upper, get_adjacent_location, heading_clockwise, are_opposites};
 
-#[derive(Clone, Copy)]
+#[derive(Clone, Copy, PartialEq, Eq)]
 pub enum Location {
     Left,
     Top,
@@ -12,7 +12,7 @@ pub enum Location {
     Inside,
 }
 
-// What `get_location` answers: the location, and whether the point is off the edges.
+// What `get_location` answers: the location, and whether the point is off the edges. No enum: callers read the location whichever the flag is.
 #[derive(Clone, Copy)]
 pub struct Spot {
     pub loc: Location,
@@ -20,7 +20,7 @@ pub struct Spot {
 }
 
 impl Spot {
-    // On the edge of a side.
+    // On the edge of a side. Two constructors, and no flag at the calls, where it would say less than the names.
     pub(crate) fn on_edge(loc: Location) -> Spot
         ensures { result ≡ spot loc false }
     {
@@ -36,11 +36,26 @@ impl Spot {
 }
 
 // What `point_in_polygon` answers.
-#[derive(Clone, Copy)]
+#[derive(Clone, Copy, PartialEq, Eq)]
 pub enum PointInPolygonResult {
     IsOn,
     IsInside,
     IsOutside,
+}
+
+// The place in the side order, as the Rust's `loc as i32`.
+impl From<Location> for u32 {
+    fn from(loc: Location) -> u32
+        ensures { result ≡ side_number loc }
+    {
+        match loc {
+            Location::Left => Location::LEFT,
+            Location::Top => Location::TOP,
+            Location::Right => Location::RIGHT,
+            Location::Bottom => Location::BOTTOM,
+            Location::Inside => Location::INSIDE,
+        }
+    }
 }
 
 impl Location {
@@ -55,20 +70,7 @@ impl Location {
 
     pub const INSIDE: u32 = 4;
 
-    // The place in the side order, as the Rust's `loc as i32`.
-    pub fn number(self) -> u32
-        ensures { result ≡ side_number self }
-    {
-        match self {
-            Location::Left => Location::LEFT,
-            Location::Top => Location::TOP,
-            Location::Right => Location::RIGHT,
-            Location::Bottom => Location::BOTTOM,
-            Location::Inside => Location::INSIDE,
-        }
-    }
-
-    // The side at a place in the side order.
+    // The side at a place in the side order. Total, as it was for its callers: a TryFrom would refuse 4 and above.
     pub fn from_number(n: u32) -> Location
         ensures { result ≡ side n }
     {
@@ -80,16 +82,10 @@ impl Location {
         }
     }
 
-    pub fn equals(self, other: Location) -> bool
-        ensures { result ≡ same_location self other }
-    {
-        self.number() == other.number()
-    }
-
     pub fn is_inside(self) -> bool
         ensures { result ≡ is_inside self }
     {
-        self.number() == Location::INSIDE
+        self == Location::Inside
     }
 
     // The side across the rectangle.
@@ -118,7 +114,7 @@ impl Location {
         }
     }
 
-    // The neighbour at the end of the larger coordinates.
+    // The neighbour at the end of the larger coordinates. A table of its own, as plain as the side across from `lower`.
     pub fn upper(self) -> Location
         ensures { result ≡ upper self }
     {
@@ -134,7 +130,7 @@ impl Location {
     pub fn get_adjacent_location(self, is_clockwise: bool) -> Location
         ensures { result ≡ get_adjacent_location self is_clockwise }
     {
-        let n = self.number();
+        let n = u32::from(self);
         if is_clockwise {
             Location::from_number((n + 1) % 4)
         } else {
@@ -145,15 +141,15 @@ impl Location {
     pub fn heading_clockwise(self, curr: Location) -> bool
         ensures { result ≡ heading_clockwise self curr }
     {
-        (self.number() + 1) % 4 == curr.number()
+        (u32::from(self) + 1) % 4 == u32::from(curr)
     }
 
     // Inside is number 4, so Right and Inside count as opposites, as in the Rust.
     pub fn are_opposites(self, curr: Location) -> bool
         ensures { result ≡ are_opposites self curr }
     {
-        let a = self.number();
-        let b = curr.number();
-        if a < b { b - a == 2 } else { a - b == 2 }
+        let a = u32::from(self);
+        let b = u32::from(curr);
+        a.abs_diff(b) == 2
     }
 }

@@ -1,11 +1,9 @@
 // Points of the plane, as core.rs has them, and a point put on an edge.
 ghost use Rattle.std.specs.Prelude.{◌≡◌};
 ghost use Rattle.plane.specs.Intersection.{held_between, put_on_edge};
-ghost use Rattle.plane.specs.Points.{point, same_point};
+ghost use Rattle.plane.specs.Points.{point};
 
-use crate::rect::{max, min};
-
-#[derive(Clone, Copy)]
+#[derive(Clone, Copy, PartialEq, Eq)]
 pub struct Point64 {
     pub x: i64,
     pub y: i64,
@@ -16,13 +14,6 @@ impl Point64 {
         ensures { result ≡ point x y }
     {
         Point64 { x, y }
-    }
-
-    // Whether the two points are one.
-    pub fn equals(self, other: Point64) -> bool
-        ensures { result ≡ same_point self other }
-    {
-        (self.x == other.x) & (self.y == other.y)
     }
 
     // The point put on the edge from c to d, which is parallel to an axis: its coordinate across the edge becomes the edge's, and the one
@@ -43,8 +34,5 @@ impl Point64 {
 fn held_between(a: i64, b: i64, z: i64) -> i64
     ensures { result ≡ held_between a b z }
 {
-    let low = min(a, b);
-    let high = max(a, b);
-    let below = min(z, high);
-    max(low, below)
+    z.clamp(a.min(b), a.max(b))
 }

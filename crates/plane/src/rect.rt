@@ -9,7 +9,7 @@ ghost use Rattle.std.specs.Int.Signed.{quot_z};
 use crate::location::{Location, Spot};
 use crate::point::Point64;
 
-#[derive(Clone, Copy)]
+#[derive(Clone, Copy, PartialEq, Eq)]
 pub struct Rect64 {
     pub left: i64,
     pub top: i64,
@@ -59,10 +59,10 @@ impl Rect64 {
     pub fn intersects(self, other: Rect64) -> bool
         ensures { result ≡ intersects self other }
     {
-        let l = max(self.left, other.left);
-        let r = min(self.right, other.right);
-        let t = max(self.top, other.top);
-        let b = min(self.bottom, other.bottom);
+        let l = self.left.max(other.left);
+        let r = other.right.min(self.right);
+        let t = self.top.max(other.top);
+        let b = other.bottom.min(self.bottom);
         (l <= r) & (t <= b)
     }
 
@@ -70,8 +70,8 @@ impl Rect64 {
     pub fn mid_point(self) -> Point64
         ensures { result ≡ mid_point self }
     {
-        let x = middle(self.left, self.right);
-        let y = middle(self.top, self.bottom);
+        let x = self.left.midpoint(self.right);
+        let y = self.top.midpoint(self.bottom);
         Point64 { x, y }
     }
 
@@ -116,7 +116,7 @@ impl Rect64 {
         }
     }
 
-    // Whether the point is on a side's line or beyond it.
+    // Whether the point is on a side's line or beyond it. One function with `beyond` would want the comparison passed in, which is no plainer.
     pub fn beyond_or_on(self, loc: Location, p: Point64) -> bool
         ensures { result ≡ beyond_or_on self loc p }
     {
@@ -186,39 +186,14 @@ impl Rect64 {
     }
 }
 
-pub fn max(a: i64, b: i64) -> i64
-    ensures { result ≡ max a b }
-{
-    if b < a { a } else { b }
-}
-
-pub fn min(a: i64, b: i64) -> i64
-    ensures { result ≡ min a b }
-{
-    if a < b { a } else { b }
-}
-
-// Half of the sum, toward zero. Numbers of different signs are added first; of the same sign, halved first.
-fn middle(a: i64, b: i64) -> i64
-    ensures { result ≡ quot_z (a +ℤ b) (pos 2) }
-{
-    if (a < 0) & (0 <= b) {
-        return (a + b) / 2;
-    }
-    if (b < 0) & (0 <= a) {
-        return (a + b) / 2;
-    }
-    a / 2 + b / 2 + (a % 2 + b % 2) / 2
-}
-
 // Whether a coordinate is within the limit.
 fn within_limit(z: i64) -> bool
     ensures { result ≡ in_limit z }
 {
-    (-Rect64::MAX_COORDINATE <= z) & (z <= Rect64::MAX_COORDINATE)
+    (-Rect64::MAX_COORDINATE..=Rect64::MAX_COORDINATE).contains(&z)
 }
 
-// The bit of the line that z is on, the first if it is on both, and 0 if it is on neither.
+// The bit of the line that z is on, the first if it is on both, and 0 if it is on neither: bits, as the Rust's sets of edges have them.
 fn line_bit(z: i64, first: i64, second: i64, first_bit: u32, second_bit: u32) -> u32
     requires { first_bit ≤ 8 × second_bit ≤ 8 }
     ensures small { result ≤ 8 }

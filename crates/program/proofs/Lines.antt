@@ -15,11 +15,22 @@ use Rattle.reference.specs.Entry.{joined, filled}
 use Rattle.rectclip.proofs.Writing.{coordinates_length}
 use Rattle.text.specs.Printing.{path_line, path_lines}
 use Rattle.text.specs.Written.{Written, coordinates_line, points_line}
+use Rattle.std.specs.Prelude.{Option, Some, IsSome}
 use Rattle.program.specs.Printed.{Gives, Added, Begins, Holds, Prints}
 
 -- ---- one line that fits
-pub gives_line : {l out : List ℕ} {r : ℕ} {after : List ℕ} → length l ≤ length out → Written l out r after → Gives l out r after
-gives_line {l} {out} h w = let e = le-leb (length l) (length out) h in record { count = rw e at w.count; list_after = rw e at w.list_after }
+pub gives_line : {l out : List ℕ} {r : Option ℕ} {n : ℕ} {after : List ℕ} → length l ≤ length out → Written l out r after → r ≡ Some n → Gives l out n after
+gives_line {l} {out} {n = n} h w q =
+    let e = le-leb (length l) (length out) h in
+    let f : Some n ≡ Some (length l) = sym q ∙ (rw e at w.count) in
+    record { count = cc; list_after = rw e at w.list_after }
+
+-- and so there is an answer
+is_written : {l out : List ℕ} {r : Option ℕ} {after : List ℕ} → length l ≤ length out → Written l out r after → r ≡ Some (length l)
+is_written {l} {out} h w = rw (le-leb (length l) (length out) h) at w.count
+
+pub some_written : {l out : List ℕ} {r : Option ℕ} {after : List ℕ} → length l ≤ length out → Written l out r after → IsSome r
+some_written h w = rw (is_written h w) refl
 
 -- what is written lies within the list
 pub filled_within : (bytes out : List ℕ) {r : ℕ} {after : List ℕ} → r ≡ length bytes → after ≡ filled bytes out → r ≤ length after
@@ -29,16 +40,16 @@ pub gives_within : {bytes out : List ℕ} {r : ℕ} {after : List ℕ} → Gives
 gives_within {bytes} {out} g = filled_within bytes out g.count g.list_after
 
 -- the same by the line's number as it came
-pub path_as : (closed : Bool) {x y : ℤ} (zs : List ℤ) {out : List ℕ} {r : ℕ} {after : List ℕ} → x ≡ y → Written (coordinates_line closed x zs) out r after → Written (coordinates_line closed y zs) out r after
+pub path_as : (closed : Bool) {x y : ℤ} (zs : List ℤ) {out : List ℕ} {r : Option ℕ} {after : List ℕ} → x ≡ y → Written (coordinates_line closed x zs) out r after → Written (coordinates_line closed y zs) out r after
 path_as closed zs {out} {r} {after} e w = subst (λ (z : ℤ). Written (coordinates_line closed z zs) out r after) e w
 
 -- a line in the part of the list behind `end`, and the list as the part comes back to it
-pub added : {l : List ℕ} {end : ℕ} {out : List ℕ} {n : ℕ} {ys : List ℕ} → end + length l ≤ length out → Written l (take (length out - end) (drop end out)) n ys
+pub added : {l : List ℕ} {end : ℕ} {out : List ℕ} {r : Option ℕ} {n : ℕ} {ys : List ℕ} → end + length l ≤ length out → Written l (take (length out - end) (drop end out)) r ys → r ≡ Some n
     → Added l end out (end + n) (take end out ++ (ys ++ drop (length out - end) (drop end out)))
-added {l} {end} {out} {n} {ys} h w =
+added {l} {end} {out} {r} {n} {ys} h w q =
     let k : length (drop end out) ≡ length out - end = length-drop end out in
     let p : take (length out - end) (drop end out) ≡ drop end out = take_all (length out - end) (drop end out) (omega (arith, k)) in
-    let g : Gives l (drop end out) n ys = gives_line (omega (arith, k)) (subst (λ (x : List ℕ). Written l x n ys) p w) in
+    let g : Gives l (drop end out) n ys = gives_line (omega (arith, k)) (subst (λ (x : List ℕ). Written l x r ys) p w) q in
     let none : drop (length out - end) (drop end out) ≡ [] = drop_of_length-le (drop end out) {i = length out - end} (omega (arith, k)) in
     record {
       ends = ap (λ (x : ℕ). end + x) g.count;
@@ -86,110 +97,98 @@ coordinates_append : (p q : List Point64) → coordinates_of (p ++ q) ≡ coordi
 coordinates_append [] q = refl
 coordinates_append (x ∷ p) q = ap (λ (l : List ℤ). x.x ∷ x.y ∷ l) (coordinates_append p q)
 
--- those from i on are still to be written
-pub record PathsTo (closed : Bool) (line : ℤ) (count : ℕ) (C : List ℤ) (N out₀ : List ℕ) (all : List (List Point64)) (out : List ℕ) (i at end : ℕ) : Type 0 where
+-- so many are written, and the others are still to be
+pub record PathsTo (closed : Bool) (line : ℤ) (N out₀ : List ℕ) (all : List (List Point64)) (out : List ℕ) (i : ℕ) (C : List ℤ) (end : ℕ) : Type 0 where
   pub rest : List (List Point64)
-  pub many : count ≡ i + length rest
-  pub here : at ≤ length C
-  pub points : Begins (coordinates_of (joined rest)) (drop at C)
-  pub counts : Begins (map length rest) (drop i N)
+  pub points : Begins (coordinates_of (joined rest)) C
+  pub counts : drop i N ≡ map length rest
   pub written : WrittenTo (path_lines closed line all) out₀ out end (path_lines closed line rest)
 
 -- the next of them
-record Ahead (closed : Bool) (line : ℤ) (count : ℕ) (C : List ℤ) (N out₀ : List ℕ) (all : List (List Point64)) (out : List ℕ) (i at end : ℕ) : Type 0 where
+record Ahead (closed : Bool) (line : ℤ) (N out₀ : List ℕ) (all : List (List Point64)) (out : List ℕ) (i : ℕ) (C : List ℤ) (end : ℕ) : Type 0 where
   pub path : List Point64
   pub more : List (List Point64)
-  pub many : count ≡ suc i + length more
-  pub points : Begins (coordinates_of path ++ coordinates_of (joined more)) (drop at C)
-  pub counts : Begins (length path ∷ map length more) (drop i N)
+  pub points : Begins (coordinates_of path ++ coordinates_of (joined more)) C
+  pub counts : drop i N ≡ length path ∷ map length more
   pub written : WrittenTo (path_lines closed line all) out₀ out end (path_line closed line path ++ path_lines closed line more)
 
-module _ {closed : Bool} {line : ℤ} {count : ℕ} {C : List ℤ} {N out₀ : List ℕ} {all : List (List Point64)} where
-  pub paths_start : Holds closed line count C N out₀ all → PathsTo closed line count C N out₀ all out₀ 0 0 0
+module _ {closed : Bool} {line : ℤ} {N out₀ : List ℕ} {all : List (List Point64)} where
+  pub paths_start : {C : List ℤ} → Holds closed line C N out₀ all → PathsTo closed line N out₀ all out₀ 0 C 0
   paths_start h = record {
     rest = all;
-    many = omega (arith, h.many);
-    here = omega arith;
     points = h.points;
     counts = h.counts;
     written = record { goal = refl; room = omega (arith, h.room); same = refl; long = refl };
   }
 
-  module _ {out : List ℕ} {i at end : ℕ} (s : PathsTo closed line count C N out₀ all out i at end) where
-    module _ (h : i < count) where
-      ahead : Ahead closed line count C N out₀ all out i at end
-      ahead = go s.rest s.many s.points s.counts s.written
+  module _ {out : List ℕ} {i : ℕ} {C : List ℤ} {end : ℕ} (s : PathsTo closed line N out₀ all out i C end) where
+    module _ (h : i < length N) where
+      ahead : Ahead closed line N out₀ all out i C end
+      ahead = go s.rest s.points s.counts s.written
         where
-          go : (rest : List (List Point64)) → count ≡ i + length rest → Begins (coordinates_of (joined rest)) (drop at C) → Begins (map length rest) (drop i N)
-              → WrittenTo (path_lines closed line all) out₀ out end (path_lines closed line rest) → Ahead closed line count C N out₀ all out i at end
-          go [] m b c w = absurd (omega arith)
-          go (p ∷ ps) m b c w = record {
+          go : (rest : List (List Point64)) → Begins (coordinates_of (joined rest)) C → drop i N ≡ map length rest
+              → WrittenTo (path_lines closed line all) out₀ out end (path_lines closed line rest) → Ahead closed line N out₀ all out i C end
+          go [] b c w = absurd (omega (arith, ap length c, length-drop i N))
+          go (p ∷ ps) b c w = record {
             path = p;
             more = ps;
-            many = omega arith;
             points = record { others = b.others; is = b.is ∙ ap (λ (l : List ℤ). l ++ b.others) (coordinates_append p (joined ps)) };
             counts = c;
             written = w;
           }
 
-      -- its length stands in the one list
-      pub index_here : i < length N
-      index_here = omega (arith, ap length ahead.counts.is, length-drop i N)
-
-      entries : get_or N i 0 ∷ drop (suc i) N ≡ length ahead.path ∷ (map length ahead.more ++ ahead.counts.others)
-      entries = sym (drop-cons N i 0 index_here) ∙ ahead.counts.is
+      entries : get_or N i 0 ∷ drop (suc i) N ≡ length ahead.path ∷ map length ahead.more
+      entries = sym (drop-cons N i 0 h) ∙ ahead.counts
 
       length_here : get_or N i 0 ≡ length ahead.path
       length_here = let e = entries in cc
 
-      -- and its coordinates in the other
+      -- its coordinates are the first
       size_here : length (coordinates_of ahead.path) ≡ 2 * get_or N i 0
       size_here = omega (arith, coordinates_length ahead.path, length_here)
 
       behind : List ℤ
       behind = coordinates_of (joined ahead.more) ++ ahead.points.others
 
-      split : drop at C ≡ coordinates_of ahead.path ++ behind
+      split : C ≡ coordinates_of ahead.path ++ behind
       unfolding behind
       split = ahead.points.is ∙ append_assoc (coordinates_of ahead.path) (coordinates_of (joined ahead.more)) ahead.points.others
 
-      pub part_here : at + 2 * get_or N i 0 ≤ length C
-      part_here = omega (arith, ap length split, length-append (coordinates_of ahead.path) behind, size_here, length-drop at C, s.here)
+      pub part_here : 2 * get_or N i 0 ≤ length C
+      part_here = omega (arith, ap length split, length-append (coordinates_of ahead.path) behind, size_here)
 
-      module _ {next : ℕ} (e : next ≡ at + 2 * get_or N i 0) where
-        part_is : take (next - at) (drop at C) ≡ coordinates_of ahead.path
-        part_is = ap (take (next - at)) split ∙ take_at (coordinates_of ahead.path) behind (next - at) (omega (arith, size_here))
+      module _ {part others : List ℤ} (e : part ≡ take (2 * get_or N i 0) C) (f : others ≡ drop (2 * get_or N i 0) C) where
+        part_is : part ≡ coordinates_of ahead.path
+        part_is = e ∙ ap (take (2 * get_or N i 0)) split ∙ take_at (coordinates_of ahead.path) behind (2 * get_or N i 0) size_here
 
-        line_is : coordinates_line closed line (take (next - at) (drop at C)) ≡ path_line closed line ahead.path
+        line_is : coordinates_line closed line part ≡ path_line closed line ahead.path
         line_is = ap (coordinates_line closed line) part_is ∙ points_line closed line ahead.path
 
-        pub line_room : end + length (coordinates_line closed line (take (next - at) (drop at C))) ≤ length out
+        pub line_room : end + length (coordinates_line closed line part) ≤ length out
         line_room = omega (arith, ap length line_is, length-append (path_line closed line ahead.path) (path_lines closed line ahead.more), ahead.written.room)
 
-        pub paths_again : {end' : ℕ} {out' : List ℕ} → Added (coordinates_line closed line (take (next - at) (drop at C))) end out end' out' → PathsTo closed line count C N out₀ all out' (i + 1) next end'
+        pub paths_again : {end' : ℕ} {out' : List ℕ} → Added (coordinates_line closed line part) end out end' out' → PathsTo closed line N out₀ all out' (i + 1) others end'
         unfolding behind
         paths_again {end'} {out'} a = record {
           rest = ahead.more;
-          many = omega (arith, ahead.many);
-          here = omega (arith, part_here);
-          points = record { others = ahead.points.others; is = ap (λ (k : ℕ). drop k C) e ∙ sym (drop-drop (2 * get_or N i 0) at C) ∙ ap (drop (2 * get_or N i 0)) split ∙ drop_at (coordinates_of ahead.path) behind (2 * get_or N i 0) size_here };
-          counts = record { others = ahead.counts.others; is = ap (λ (k : ℕ). drop k N) (add-one i) ∙ (let e = entries in cc) };
+          points = record { others = ahead.points.others; is = f ∙ ap (drop (2 * get_or N i 0)) split ∙ drop_at (coordinates_of ahead.path) behind (2 * get_or N i 0) size_here };
+          counts = ap (λ (k : ℕ). drop k N) (add-one i) ∙ (let e = entries in cc);
           written = written_on ahead.written (subst (λ (l : List ℕ). Added l end out end' out') line_is a);
         }
 
-    pub paths_end : count ≤ i → Gives (path_lines closed line all) out₀ end out
-    paths_end h = written_end (subst (λ (ps : List (List Point64)). WrittenTo (path_lines closed line all) out₀ out end (path_lines closed line ps)) (none s.rest (omega (arith, s.many))) s.written)
+    pub paths_end : length N ≤ i → Gives (path_lines closed line all) out₀ end out
+    paths_end h = written_end (subst (λ (ps : List (List Point64)). WrittenTo (path_lines closed line all) out₀ out end (path_lines closed line ps)) (none s.rest (sym s.counts ∙ drop_of_length-le N {i = i} h)) s.written)
       where
-        none : (ps : List (List Point64)) → length ps ≤ 0 → ps ≡ []
+        none : (ps : List (List Point64)) → map length ps ≡ [] → ps ≡ []
         none [] h = refl
-        none (p ∷ ps) h = absurd (omega arith)
+        none (p ∷ ps) h = absurd (omega (arith, ap length h))
 
     pub paths_long : length out ≡ length out₀
     paths_long = s.written.long
 
 -- by the line's number as it came
-pub holds_as : (closed : Bool) {x y : ℤ} {count : ℕ} {C : List ℤ} {N out : List ℕ} {all : List (List Point64)} → x ≡ y → Holds closed x count C N out all → Holds closed y count C N out all
-holds_as closed {x} {y} {count} {C} {N} {out} {all} e h = subst (λ (z : ℤ). Holds closed z count C N out all) e h
+pub holds_as : (closed : Bool) {x y : ℤ} {C : List ℤ} {N out : List ℕ} {all : List (List Point64)} → x ≡ y → Holds closed x C N out all → Holds closed y C N out all
+holds_as closed {x} {y} {C} {N} {out} {all} e h = subst (λ (z : ℤ). Holds closed z C N out all) e h
 
-pub prints_as : (closed : Bool) {x y : ℤ} {count : ℕ} {C : List ℤ} {N out : List ℕ} {r : ℕ} {after : List ℕ} → x ≡ y → Prints closed x count C N out r after → Prints closed y count C N out r after
-prints_as closed {x} {y} {count} {C} {N} {out} {r} {after} e h = subst (λ (z : ℤ). Prints closed z count C N out r after) e h
+pub prints_as : (closed : Bool) {x y : ℤ} {C : List ℤ} {N out : List ℕ} {r : ℕ} {after : List ℕ} → x ≡ y → Prints closed x C N out r after → Prints closed y C N out r after
+prints_as closed {x} {y} {C} {N} {out} {r} {after} e h = subst (λ (z : ℤ). Prints closed z C N out r after) e h

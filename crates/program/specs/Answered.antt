@@ -1,6 +1,6 @@
 -- What the clip program prints for a line, of document 01's section 'The clip program': 'Line 1 gives only 12 or 6', '12 comes before
 -- the other checks', and for a path the refusal or the lines of its drawing's paths. Functions of rectangle, line number and request alone.
-use Rattle.std.specs.Prelude.{◌≡◌, Bool, List, ℕ, ◌≤◌, length, ℤ, pos, if◌then◌else◌}
+use Rattle.std.specs.Prelude.{◌≡◌, Bool, List, ℕ, ◌≤◌, length, ℤ, pos, Ok, Err, if◌then◌else◌}
 use Rattle.plane.specs.Basics.{Try, refuse, ok}
 use Rattle.plane.specs.Limit.{rect_in_limit}
 use Rattle.plane.specs.declared.rect.Rect64.{Rect64}
@@ -10,7 +10,6 @@ use Rattle.text.specs.Reading.{Request, unreadable, rectangle, path}
 use Rattle.text.specs.Printing.{rectangle_line, refusal_line, path_lines}
 use Rattle.handheld.specs.Drawn.{clipped}
 use Rattle.program.specs.declared.answers.Start.{Start}
-use Rattle.program.specs.declared.answers.Start.TheVariants.{Refused, Ready}
 
 -- ---- line 1: a refusal and nothing that follows, or the R line and its rectangle
 abbrev pub first_answer : Request → List ℕ
@@ -23,10 +22,9 @@ pub data Started : Type 0 where
   start_refused : (number bytes : ℕ) → Started
   start_ready : Rect64 → (bytes : ℕ) → Started
 
--- of each case of the enum
+-- of each case of the answer
 abbrev pub started : Start → Started
-started (Refused why n) = start_refused (number why) n
-started (Ready r n) = start_ready r n
+started s = elim s.rect [ Err why ↦ start_refused (number why) s.count | Ok r ↦ start_ready r s.count ]
 
 -- of each request
 abbrev pub start : Request → ℕ → Started

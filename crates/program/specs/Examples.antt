@@ -5,8 +5,7 @@ use Rattle.plane.specs.Rectangle.{rect}
 use Rattle.text.specs.Decimal.{digits_of, field, decimal, signed_decimal}
 use Rattle.text.specs.Reading.{asked, request}
 use Rattle.handheld.specs.Drawn.{clipped}
-use Rattle.program.specs.declared.input.Cursor.{Cursor}
-use Rattle.program.specs.Taken.{at_hand, held}
+use Rattle.program.specs.Taken.{behind_feed, held}
 use Rattle.program.specs.Answered.{first_answer, answer}
 use Rattle.plane.specs.Intersection.{at_end, get_segment_intersection, edge_intersection, side_intersection, get_intersection}
 use Rattle.plane.specs.Locations.{start_locs_are_clockwise}
@@ -44,15 +43,12 @@ printed : first_answer (request true first) ++ answer owner (pos 2) (request fal
 unfolding at_end get_segment_intersection edge_intersection side_intersection get_intersection start_locs_are_clockwise at_vertex scan_pass scan_answer scan_loop point_in_polygon path1_contains_path2 get_bounds_path get_location determinant numerator fraction working_of crossing_of point_at intersection cross_product_sign is_collinear cross_product_three_points cross_product_is_negative is_clockwise_dir set_owner set_edge set_next set_prev set_results set_edge_list ring unlink add_to_edge struck uncouple_edge own_from set_new_owner drop_collinear_pass drop_collinear assign_side assign_edges check_ring check_from check_edges enter_all arena_of straighten_pass straighten points_from get_path get_paths clip_walked execute sheet_refusal early_refusal delivered answered clip_closed clip_open filled_part is_present first_off_edge line_through line_cross line_from line_passes line_walk_from walk_open pieces longer_than_one execute_lines seek relink regroup keep_one keep_both keep_each settle rejoin one_turn turns_from tidy_edges add add_all push_start_loc next_side next_outside add_corner_prev_curr add_corner_loc add_corners push_start_locs next_inside get_next_location second_search remain_outside enter pass_to pass_through leave cross_boundary add_round retrace close_outline last_off pass_from passes surround after_while walk_from walk_closed walked_outline lib.Ieee.add of_int sub mul div neg to_signed eq lt le digits_of field decimal signed_decimal asked request clipped
 printed = refl
 
--- the buffer holds `C` and a line feed, then `L` and a carriage return, which is a byte of the line like others; the list has room for one byte
-buffer : List ℕ
-buffer = 67 ∷ 10 ∷ 76 ∷ 13 ∷ []
+-- at hand are `C` and a line feed, then `L` and a carriage return, which is a byte of the line like others; the list has room for one byte
+hand : List ℕ
+hand = 67 ∷ 10 ∷ 76 ∷ 13 ∷ []
 
-abbrev cursor : ℕ → Cursor
-cursor at = record { at = at; end = 4 }
-
-lines : (held (at_hand buffer (cursor 0)) (cursor 0) 1 0 ≡ record { cursor = cursor 2; count = 1; ended = true })
-    × (held (at_hand buffer (cursor 2)) (cursor 2) 1 0 ≡ record { cursor = cursor 4; count = 1; ended = false })
-    × (held (at_hand buffer (cursor 4)) (cursor 4) 1 0 ≡ record { cursor = cursor 4; count = 0; ended = false })
-unfolding buffer
-lines = (refl, refl, refl)
+lines : (held hand 1 0 ≡ record { count = 1; ended = true }) × (behind_feed hand ≡ 76 ∷ 13 ∷ [])
+    × (held (behind_feed hand) 1 0 ≡ record { count = 1; ended = false }) × (behind_feed (behind_feed hand) ≡ [])
+    × (held [] 1 0 ≡ record { count = 0; ended = false })
+unfolding hand
+lines = (refl, refl, refl, refl, refl)

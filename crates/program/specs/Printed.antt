@@ -24,20 +24,19 @@ pub record Begins {A : Type 0} (xs l : List A) : Type 0 where
   pub others : List A
   pub is : l ≡ xs ++ others
 
--- so many paths lead the two lists of a call, and their lines fit
-pub record Holds (closed : Bool) (line : ℤ) (count : ℕ) (coordinates : List ℤ) (lengths out : List ℕ) (paths : List (List Point64)) : Type 0 where
-  pub many : count ≡ length paths
+-- paths of these lengths lead the coordinates, and their lines fit
+pub record Holds (closed : Bool) (line : ℤ) (coordinates : List ℤ) (lengths out : List ℕ) (paths : List (List Point64)) : Type 0 where
   pub points : Begins (coordinates_of (joined paths)) coordinates
-  pub counts : Begins (map length paths) lengths
+  pub counts : lengths ≡ map length paths
   pub room : length (path_lines closed line paths) ≤ length out
 
-pub record Printable (closed : Bool) (line : ℤ) (count : ℕ) (coordinates : List ℤ) (lengths out : List ℕ) : Type 0 where
+pub record Printable (closed : Bool) (line : ℤ) (coordinates : List ℤ) (lengths out : List ℕ) : Type 0 where
   pub paths : List (List Point64)
-  pub holds : Holds closed line count coordinates lengths out paths
+  pub holds : Holds closed line coordinates lengths out paths
 
 -- the lines of the paths that the lists hold
-pub record Prints (closed : Bool) (line : ℤ) (count : ℕ) (coordinates : List ℤ) (lengths out : List ℕ) (r : ℕ) (after : List ℕ) : Type 0 where
-  pub is : (paths : List (List Point64)) → Holds closed line count coordinates lengths out paths → Gives (path_lines closed line paths) out r after
+pub record Prints (closed : Bool) (line : ℤ) (coordinates : List ℤ) (lengths out : List ℕ) (r : ℕ) (after : List ℕ) : Type 0 where
+  pub is : (paths : List (List Point64)) → Holds closed line coordinates lengths out paths → Gives (path_lines closed line paths) out r after
 
 -- a path of `count` numbers; zs has all of them where they are at most 256
 abbrev pub numbers_answer : Rect64 → ℤ → Bool → ℕ → List ℤ → List ℕ

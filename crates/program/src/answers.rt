@@ -1,51 +1,59 @@
 // What is printed for a line, written to the front of a list of bytes that has room for every answer.
-ghost use Rattle.std.specs.Prelude.{true, false, ◌+◌, ◌≤◌, length, take};
+ghost use Rattle.std.specs.Prelude.{◌≡◌, true, false, ◌+◌, ◌≤◌, length, take, pos, Err};
 ghost use Rattle.program.specs.Printed.{Gives, Added, Printable, Prints, numbers_answer};
 ghost use Rattle.program.specs.Answered.{First, path_answer, answer};
 ghost use Rattle.program.specs.Exact.{ExactUnlessRefused, PrintsExact};
 ghost use Rattle.text.specs.Asked.{request};
-ghost use Rattle.text.specs.Reading.{unreadable, rectangle};
-ghost use Rattle.text.specs.Written.{Written, coordinates_line};
+ghost use Rattle.text.specs.Reading.{rectangle};
+ghost use Rattle.text.specs.Written.{coordinates_line};
 ghost use Rattle.text.specs.Printing.{refusal_line};
 ghost use Rattle.entry.specs.Answers.{number};
 ghost use Rattle.handheld.specs.Drawn.{clipped};
 
-use entry::answer::{Answer, Refusal};
+use entry::answer::Refusal;
 use handheld::clip;
 use plane::rect::Rect64;
 use text::reading::{Request, read_line};
 use text::writing::{write_path, write_rectangle, write_refusal};
 
-// What line 1 gives: a refusal, or the rectangle of the lines that follow; and how many bytes are written.
+// What line 1 gives: the rectangle of the lines that follow, or a refusal; and how many bytes are written.
 #[derive(Clone, Copy)]
-pub enum Start {
-    Refused(Refusal, usize),
-    Ready(Rect64, usize),
+pub struct Start {
+    pub rect: Result<Rect64, Refusal>,
+    pub count: usize,
 }
 
 // `X`, the line and the refusal's number.
 fn write_why(line: i64, why: Refusal, out: &mut [u8]) -> usize
-    ensures { Written (refusal_line line (number why)) out.old result out.new }
+    requires { 46 ≤ length out.old }
+    ensures { Gives (refusal_line line (number why)) out.old result out.new }
 {
-    write_refusal(line, why.number() as i64, out)
+    write_refusal(line, why.number() as i64, out).unwrap()
 }
 
-// Line 1 where it cannot be read.
-fn unreadable_first(out: &mut [u8; 128]) -> Start
-    ensures { First unreadable out.old result out.new }
+// Line 1 refused.
+fn refuse_first(why: Refusal, out: &mut [u8; 128]) -> Start
+    ensures rect { result.rect ≡ Err why }
+    ensures gives { Gives (refusal_line (pos 1) (number why)) out.old result.count out.new }
 {
-    let why = Refusal::UnreadableLine;
-    Start::Refused(why, write_why(1, why, out))
+    let count = write_why(1, why, out);
+    Start {
+        rect: Err(why),
+        count,
+    }
 }
 
 fn answer_rectangle(rect: Rect64, out: &mut [u8; 128]) -> Start
     ensures { First (rectangle rect) out.old result out.new }
 {
     if rect.in_limit() {
-        return Start::Ready(rect, write_rectangle(rect, out));
+        let count = write_rectangle(rect, out).unwrap();
+        return Start {
+            rect: Ok(rect),
+            count,
+        };
     }
-    let why = Refusal::RectangleOutside;
-    Start::Refused(why, write_why(1, why, out))
+    refuse_first(Refusal::RectangleOutside, out)
 }
 
 // Line 1.
@@ -55,9 +63,8 @@ pub fn answer_first(bytes: &[u8], out: &mut [u8; 128]) -> Start
     let mut numbers = [0i64; 1];
     let request = read_line(true, bytes, &mut numbers);
     match request {
-        Request::Rectangle(rect) => answer_rectangle(rect, out),
-        Request::Path(_, _) => unreadable_first(out),
-        Request::Unreadable => unreadable_first(out),
+        Some(Request::Rectangle(rect)) => answer_rectangle(rect, out),
+        _ => refuse_first(Refusal::UnreadableLine, out),
     }
 }
 
@@ -66,7 +73,7 @@ fn add_path(closed: bool, line: i64, path: &[i64], out: &mut [u8], end: usize) -
     requires { end + length (coordinates_line closed line path.now) ≤ length out.old }
     ensures { Added (coordinates_line closed line path.now) end out.old result out.new }
 {
-    let n = write_path(closed, line, path, &mut out[end..]);
+    let n = write_path(closed, line, path, &mut out[end..]).unwrap();
     end + n
 }
 
@@ -74,22 +81,19 @@ fn add_path(closed: bool, line: i64, path: &[i64], out: &mut [u8], end: usize) -
 fn write_paths(
     closed: bool,
     line: i64,
-    paths: usize,
     coordinates: &[i64],
     lengths: &[u32],
     out: &mut [u8],
 ) -> usize
-    requires { Printable closed line paths coordinates.now lengths.now out.old }
-    ensures { Prints closed line paths coordinates.now lengths.now out.old result out.new }
+    requires { Printable closed line coordinates.now lengths.now out.old }
+    ensures { Prints closed line coordinates.now lengths.now out.old result out.new }
 {
-    let mut i: usize = 0;
-    let mut at: usize = 0;
-    let mut end: usize = 0;
-    while i < paths {
-        let next = at + 2 * (lengths[i] as usize);
-        end = add_path(closed, line, &coordinates[at..next], out, end);
-        at = next;
-        i += 1;
+    let mut rest = coordinates;
+    let mut end = 0;
+    for points in lengths {
+        let (path, others) = rest.split_at(2 * (*points as usize));
+        end = add_path(closed, line, path, out, end);
+        rest = others;
     }
     end
 }
@@ -104,19 +108,18 @@ fn answer_path(rect: Rect64, closed: bool, line: i64, path: &[i64], out: &mut [u
     let mut lengths = [0u32; 257];
     let answer = clip(closed, rect, path, &mut coordinates, &mut lengths);
     match answer {
-        Answer::Refused(why) => write_why(line, why, out),
-        Answer::Drawn(c) => write_paths(
+        Err(why) => write_why(line, why, out),
+        Ok(c) => write_paths(
             closed,
             line,
-            c.paths as usize,
             &coordinates,
-            &lengths,
+            &lengths[..c.paths as usize],
             out,
         ),
     }
 }
 
-// A path of so many numbers at the list's front.
+// A path of so many numbers at the list's front. The count is no length of a slice: there may be more numbers than the list holds.
 fn answer_numbers(
     rect: Rect64,
     closed: bool,
@@ -146,8 +149,9 @@ pub fn answer_line(rect: Rect64, line: i64, bytes: &[u8], out: &mut [u8; 12288])
     let mut numbers = [0i64; 2048];
     let request = read_line(false, bytes, &mut numbers);
     match request {
-        Request::Path(closed, count) => { answer_numbers(rect, closed, line, &numbers, count, out) }
-        Request::Rectangle(_) => write_why(line, Refusal::UnreadableLine, out),
-        Request::Unreadable => write_why(line, Refusal::UnreadableLine, out),
+        Some(Request::Path(closed, count)) => {
+            answer_numbers(rect, closed, line, &numbers, count, out)
+        }
+        _ => write_why(line, Refusal::UnreadableLine, out),
     }
 }

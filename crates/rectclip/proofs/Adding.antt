@@ -12,19 +12,20 @@ use lib.ListN.{length, take}
 use lib.Seq.{take-suc-set, get_or-set_same, get_or-set_other, get_or-take, length-take-le}
 use lib.IntN.{ℤ}
 use Rattle.plane.specs.declared.point.Point64.{Point64}
-use Rattle.plane.specs.Basics.{is_nil, push, Try, refuse, ok}
+use Rattle.plane.specs.Basics.{is_nil, push, refuse, ok}
 use Rattle.plane.specs.Points.{origin, same_point, pt_at, points_of}
-use Rattle.reference.specs.Walk.{Walk, no_room, add}
+use Rattle.reference.specs.Walk.{Walk, add}
 use Rattle.entry.specs.declared.answer.Refusal.TheVariants.{StoreFull}
 use Rattle.rectclip.specs.declared.walk.WalkState.{WalkState}
-use Rattle.rectclip.specs.declared.walk.Step.{Step}
-use Rattle.rectclip.specs.declared.walk.Step.TheVariants.{Walked, Refused}
+use Rattle.std.specs.Prelude.{Ok, Err}
 use Rattle.rectclip.specs.Memory.{at, put, put_point, column}
 use Rattle.rectclip.specs.Bounds.{Reached}
-use Rattle.rectclip.specs.Walking.{location, walk_of, Fits, Adds, Stepped}
+use Rattle.rectclip.specs.Walking.{location, walk_of, Fits}
 use Rattle.rectclip.proofs.Memory.{room_put, at_put, at_put_slot}
 use Rattle.rectclip.proofs.Columns.{column_pushed, column_other}
-use Rattle.rectclip.proofs.Walking.{step_walked, step_refused}
+use Rattle.rectclip.specs.declared.walk.Walker.{Walker}
+use Rattle.rectclip.specs.Steps.{walk, full, Steps}
+use Rattle.rectclip.proofs.Steps.{stays, refused}
 use Rattle.rectclip.proofs.Coordinates.{points_length, points_take, points_put, length_put_point}
 
 pub pos_of : {n : ℕ} → (n ≡ 0 → ⊥) → 0 < n
@@ -92,6 +93,21 @@ module _ {store : List ℤ} {work : List ℕ} {s : WalkState} (F : Fits store wo
           | no q ↦ rw (get_or-set_other (points_of store) s.points i pt origin q) (F.near i (omega arith))
         ])
 
+    -- the point is put there, and not yet counted
+    pub fits_put : Fits (put_point store s.points pt) work s
+    fits_put =
+        let e = length_put_point store s.points pt in
+        record {
+          room = rw e F.room;
+          few = rw e F.few;
+          points = rw e F.points;
+          starts = F.starts;
+          start_locs = rw e F.start_locs;
+          begun = F.begun;
+          rising = F.rising;
+          near = λ i hi. close_behind i (omega arith);
+        }
+
     points_pushed : points_of (take (2 * (s.points + 1)) (put_point store s.points pt)) ≡ push (walk_of store work s).points pt
     points_pushed =
         points_take (s.points + 1) (put_point store s.points pt)
@@ -158,40 +174,32 @@ module _ {store : List ℤ} {work : List ℕ} {s : WalkState} (F : Fits store wo
       start_locs = map location (column_other 4 5 s.start_locs work s.starts s.points (omega arith) (omega arith) (λ q. omega arith) j);
     }
 
--- ---- what `add` has to show at each return
-module _ {store : List ℤ} {work : List ℕ} {s : WalkState} {pt : Point64} (A : Adds store work s pt) where
-  abbrev goal : Bool → Try Walk
-  goal b = add (no_room (length store / 2)) (walk_of store work s) pt b
+-- ---- what `begin` and `add` of a walker have to show
+module _ (x : Walker) (pt : Point64) where
+  many : length (walk x).points ≡ x.state.points
+  many = walk_length x.fits
 
-  abbrev count : length (walk_of store work s).points ≡ s.points
-  count = walk_length A.fits
+  module _ (h : length x.store.now / 2 ≤ x.state.points) where
+    pub begin_refused : Steps (add (full x) (walk x) pt true) x x (Err StoreFull)
+    begin_refused = refused (sym (add_new_full _ (walk x) pt x.state.points many (le-leb _ _ h)))
 
-  pub new_refused : length store / 2 ≤ s.points → Stepped (goal true) store work (Refused StoreFull)
-  new_refused h = step_refused (sym (add_new_full _ (walk_of store work s) pt s.points count (le-leb _ _ h)))
+  pub begin_first : x.state.points ≡ 0 → add (full x) (walk x) pt true ≡ add (full x) (walk x) pt false
+  begin_first h = sym (add_first _ (walk x) pt x.state.points many h)
 
-  pub new_walked : s.points < length store / 2 → {store' : List ℤ} {work' : List ℕ} → store' ≡ put_point store s.points pt → work' ≡ put 4 work s.starts s.points
-      → Stepped (goal true) store' work' (Walked (record { points = s.points + 1; starts = s.starts + 1; start_locs = s.start_locs }))
-  new_walked h {store'} {work'} es ew =
-      rw (es, ew)
-      (step_walked (ap ok (walk_started A.fits h pt A.close) ∙ sym (add_new _ (walk_of store work s) pt s.points count (lt-leb _ _ h)))
-      (fits_started A.fits h pt A.close))
+  pub begin_is : x.state.points < length x.store.now / 2 → Reached pt
+      → ok (walk_of (put_point x.store.now x.state.points pt) (put 4 x.work.now x.state.starts x.state.points) (record { points = x.state.points + 1; starts = x.state.starts + 1; start_locs = x.state.start_locs })) ≡ add (full x) (walk x) pt true
+  begin_is h near = ap ok (walk_started x.fits h pt near) ∙ sym (add_new _ (walk x) pt x.state.points many (lt-leb _ _ h))
 
-  pub first_is_new : s.points ≡ 0 → {store' : List ℤ} {work' : List ℕ} {r : Step} → Stepped (goal true) store' work' r → Stepped (goal false) store' work' r
-  first_is_new h R = rw (add_first _ (walk_of store work s) pt s.points count h) R
+  module _ (h : 0 < x.state.points) {last : Point64} (el : last ≡ pt_at (points_of x.store.now) (x.state.points - 1)) where
+    last_at : pt_at (walk x).points (x.state.points - 1) ≡ last
+    last_at = walk_at x.fits (x.state.points - 1) (omega arith) ∙ sym el
 
-  last_is : 0 < s.points → pt_at (walk_of store work s).points (s.points - 1) ≡ pt_at (points_of store) (s.points - 1)
-  last_is h = walk_at A.fits (s.points - 1) (omega arith)
+    pub add_skips : same_point last pt ≡ true → Steps (add (full x) (walk x) pt false) x x (Ok tt)
+    add_skips e = stays (sym (add_same _ (walk x) pt x.state.points many h (rw last_at e)))
 
-  module _ (h : 0 < s.points) {last : Point64} (el : last ≡ pt_at (points_of store) (s.points - 1)) where
-    pub same_skipped : same_point last pt ≡ true → Stepped (goal false) store work (Walked s)
-    same_skipped e = step_walked (sym (add_same _ (walk_of store work s) pt s.points count h (rw (last_is h, ← el) e))) A.fits
+    pub add_refused : same_point last pt ≡ false → length x.store.now / 2 ≤ x.state.points → Steps (add (full x) (walk x) pt false) x x (Err StoreFull)
+    add_refused e f = refused (sym (add_full _ (walk x) pt x.state.points many h (rw last_at e) (le-leb _ _ f)))
 
-    pub other_refused : same_point last pt ≡ false → length store / 2 ≤ s.points → Stepped (goal false) store work (Refused StoreFull)
-    other_refused e f = step_refused (sym (add_full _ (walk_of store work s) pt s.points count h (rw (last_is h, ← el) e) (le-leb _ _ f)))
-
-    pub other_walked : same_point last pt ≡ false → s.points < length store / 2 → {store' : List ℤ} → store' ≡ put_point store s.points pt
-        → Stepped (goal false) store' work (Walked (record { points = s.points + 1; starts = s.starts; start_locs = s.start_locs }))
-    other_walked e f {store'} es =
-        rw es
-        (step_walked (ap ok (walk_longer A.fits f pt A.close) ∙ sym (add_longer _ (walk_of store work s) pt s.points count h (rw (last_is h, ← el) e) (lt-leb _ _ f)))
-        (fits_longer A.fits f pt A.close))
+    pub add_is : same_point last pt ≡ false → x.state.points < length x.store.now / 2 → Reached pt
+        → ok (walk_of (put_point x.store.now x.state.points pt) x.work.now (record { points = x.state.points + 1; starts = x.state.starts; start_locs = x.state.start_locs })) ≡ add (full x) (walk x) pt false
+    add_is e f near = ap ok (walk_longer x.fits f pt near) ∙ sym (add_longer _ (walk x) pt x.state.points many h (rw last_at e) (lt-leb _ _ f))

@@ -5,13 +5,15 @@ use Prim.Native.Nat.{ℕ, zero, suc, ◌+◌, ◌*◌, ◌-◌, ◌<◌, ◌≤�
 use native.Mathlib.Omega.{arith}
 use native.Mathlib.Decide.{ℕ_discrete}
 use lib.ListN.{length, get_or, replicate, length-append, length-replicate, get_or-replicate, get_or-append}
+use lib.IntN.{ℤ}
 use lib.Seq.{ext_get_or, get_or_at}
 use borrow.Author.Tests.{eq-eqb, ne_eqb}
 use Rattle.plane.specs.Basics.{none, push, upwards}
 use Rattle.reference.specs.Arena.{edge_list, ring}
 use Rattle.rectclip.specs.declared.arena.Sizes.{Sizes}
 use Rattle.rectclip.specs.Memory.{at, put, Room, column, from}
-use Rattle.rectclip.specs.Arenas.{arena_at, Spare, free}
+use Rattle.rectclip.specs.declared.arena.Arena as lent
+use Rattle.rectclip.specs.Arenas.{arena_at, Holds}
 use Rattle.rectclip.specs.Rings.{NodeAt, Placed, after, before, Linked, Built}
 use Rattle.rectclip.proofs.Memory.{length_put, room_put, at_put, at_put_field, at_put_slot}
 use Rattle.rectclip.proofs.Columns.{column_at, column_length}
@@ -80,9 +82,6 @@ pub record Linking (n : ℕ) (m₀ m : List ℕ) (prev i : ℕ) : Type 0 where
   pub here : i ≤ n
   pub same : length m ≡ length m₀
 
-pub linking_start : (n : ℕ) (m : List ℕ) → 0 < n → Linking n m m (n - 1) 0
-linking_start n m h = record { each = λ j l. absurd (omega arith); prev_is = refl; prev_in = omega arith; here = omega arith; same = refl }
-
 pub linking_again : {n : ℕ} {m₀ m : List ℕ} {prev i : ℕ} → Linking n m₀ m prev i → i < n → (next : ℕ) → next ≡ after n i → {m' : List ℕ} → Placed m m' i next prev → Linking n m₀ m' i (i + 1)
 linking_again {n} {prev = prev} {i = i} I h next e {m'} p = record {
   each = λ j l.
@@ -133,6 +132,17 @@ before_in n j h = elim (ℕ_discrete j 0) [ yes e ↦ rw (eq-eqb j 0 e) (omega a
 abbrev pub sizes : ℕ → ℕ → ℕ → Sizes
 sizes slots n results = record { slots = slots; nodes = n; results = results; lens = replicate 8 0 }
 
+-- the list m' holds the ring of n nodes in the sizes s
+pub record Laid (m m' : List ℕ) (slots n : ℕ) (s : Sizes) : Type 0 where
+  pub is : arena_at m' s ≡ ring n
+  pub holds : Holds m' s
+  pub slots_are : s.slots ≡ slots
+  pub nodes_are : s.nodes ≡ n
+  pub cells : length m' ≡ length m
+
+pub built_by : {points : List ℤ} {m : List ℕ} {slots n : ℕ} {r : lent.Arena} → Laid m r.work.now slots n r.sizes → r.store.now ≡ points → Built points m slots n r
+built_by L e = record { is = L.is; store = e; slots_are = L.slots_are; nodes_are = L.nodes_are; cells = L.cells }
+
 no_lens : (e : ℕ) → e < 8 → ◌≡◌ {A = ℕ} (get_or (replicate 8 0) e 0) 0
 no_lens e h = get_or-replicate {A = ℕ} 8 e 0 0 h
 
@@ -143,7 +153,7 @@ no_entries : (m : List ℕ) (slots n results e : ℕ) → e < 8 → length (edge
 no_entries m slots n results e h = list_length m (sizes slots n results) refl e h ∙ no_lens e h
 
 module _ {m : List ℕ} (slots : ℕ) (R : Room slots m) where
-  pub built_none : Built m m slots 0 (sizes slots 0 0)
+  pub built_none : Laid m m slots 0 (sizes slots 0 0)
   unfolding arena_at ring column from
   built_none = record {
     is = refl;
@@ -164,7 +174,7 @@ module _ {m : List ℕ} (slots : ℕ) (R : Room slots m) where
     };
     slots_are = refl;
     nodes_are = refl;
-    same = refl;
+    cells = refl;
   }
 
   module _ (n : ℕ) (h : n ≤ slots) (q : n ≡ 0 → ⊥) {k : List ℕ} (L : Linked m k n) where
@@ -174,12 +184,12 @@ module _ {m : List ℕ} (slots : ℕ) (R : Room slots m) where
     field_kept : (f j : ℕ) → f < 4 → at f (put 4 k 0 (n - 1)) j ≡ at f k j
     field_kept f j l = at_put_field 4 f k 0 j (n - 1) (omega arith) (omega arith) (λ e. omega arith)
 
-    pub built : Built m (put 4 k 0 (n - 1)) slots n (sizes slots n 1)
+    pub built : {m' : List ℕ} → m' ≡ put 4 k 0 (n - 1) → Laid m m' slots n (sizes slots n 1)
     unfolding ring arena_at column from
-    built =
+    built w =
         let z = put 4 k 0 (n - 1) in
         let s = sizes slots n 1 in
-        record {
+        rw w (record {
           is = rw (ne_eqb n 0 q) (λ i. record {
             owner = column_is 2 n z (replicate n 0) (length-replicate n 0) (λ j l. field_kept 2 j (omega arith) ∙ (L.each j l).owner_is ∙ sym (get_or-replicate n j 0 0 l)) i;
             edge = column_is 3 n z (replicate n none) (length-replicate n none) (λ j l. field_kept 3 j (omega arith) ∙ (L.each j l).edge_is ∙ sym (get_or-replicate n j none 0 l)) i;
@@ -206,18 +216,5 @@ module _ {m : List ℕ} (slots : ℕ) (R : Room slots m) where
           };
           slots_are = refl;
           nodes_are = refl;
-          same = length_put 4 k 0 (n - 1) ∙ L.same;
-        }
-
--- the room that the ring leaves: each node may enter a list, and k results and entries more have room
-free_none : (n : ℕ) → free (replicate n none) ≡ n
-free_none zero = refl
-free_none (suc n) = omega (arith, free_none n)
-
-pub spare_ring : (N k n : ℕ) → n + k ≤ N → 1 + k ≤ N → Spare N k (ring n)
-unfolding ring
-spare_ring N k n h l =
-    elim (ℕ_discrete n 0) [
-      | yes e ↦ rw (eq-eqb n 0 e) (record { results = omega arith; lists = λ e g. omega (arith, no_list e g) })
-      | no q ↦ rw (ne_eqb n 0 q) (record { results = omega arith; lists = λ e g. omega (arith, free_none n, no_list e g) })
-    ]
+          cells = length_put 4 k 0 (n - 1) ∙ L.same;
+        })

@@ -1,6 +1,6 @@
 -- A call of either clipper: it is refused early, or the drawing is worked out and both working lists are cleared; its paths have demand 3.
 -- Assumes nothing.
-use Rattle.std.specs.Prelude.{if◌then◌else◌}
+use Rattle.std.specs.Prelude.{if◌then◌else◌, Result, Ok, Err}
 use mathlib.Core.Path.{◌≡◌, refl, sym, ◌∙◌, ap, subst}
 use mathlib.Core.Bool.{Bool, true, false, ◌||◌}
 use mathlib.Core.List.{List, map}
@@ -21,10 +21,6 @@ use Rattle.reference.specs.Entry.{refused, drawn, Drawing, Lent, After, joined, 
 use Rattle.theorems.specs.Demand.{Exactness}
 use Rattle.theorems.proofs.ClosedArea.{call_bounded, demand_3}
 use Rattle.theorems.proofs.SameEntries.{call_is}
-use Rattle.entry.specs.declared.admission.Admission.{Admission}
-use Rattle.entry.specs.declared.admission.Admission.TheVariants.{Admitted, Refused}
-use Rattle.entry.specs.declared.answer.Answer.{Answer}
-use Rattle.entry.specs.declared.answer.Answer.TheVariants as answer
 use Rattle.entry.specs.declared.answer.Counts.{Counts}
 use Rattle.entry.specs.declared.answer.Refusal.{Refusal}
 use Rattle.entry.specs.Answers.{outcome, checked, admission}
@@ -60,12 +56,12 @@ clears_work l (ok x) = go (too_short l x) refl
 -- ---- the returned paths
 module _ (closed : Bool) (rect : Rect64) (path : List ℤ) (l : Lent) (c : Counts) (coordinates : List ℤ) (lengths : List ℕ) where
   -- a drawing that was handed out stands in the leading entries
-  shows : (d : Drawing) → Exactness closed rect (points_of path) d.0 → Leaves (delivered l d) (answer.Drawn c) coordinates lengths → Returned closed rect path c.paths c.points coordinates lengths
+  shows : (d : Drawing) → Exactness closed rect (points_of path) d.0 → Leaves (delivered l d) (Ok c) coordinates lengths → Returned closed rect path c.paths c.points coordinates lengths
   unfolding delivered filled_part
   shows d exact L = go (too_short l d) refl
     where
       go : (b : Bool) → too_short l d ≡ b → Returned closed rect path c.paths c.points coordinates lengths
-      go true t = absurd (let z : outcome (answer.Drawn c) ≡ refused 11 = rw t at L.answer in let y : ◌≡◌ {A = ℕ} 0 1 = cc in omega arith)
+      go true t = absurd (let z : outcome (Ok c) ≡ refused 11 = rw t at L.answer in let y : ◌≡◌ {A = ℕ} 0 1 = cc in omega arith)
       go false t =
           let paths = d.0 in
           let z : drawn c.paths c.points c.turns ≡ drawn (length paths) (length (joined paths)) d.1 = rw t at L.answer in
@@ -86,10 +82,10 @@ module _ (closed : Bool) (rect : Rect64) (path : List ℤ) (l : Lent) (c : Count
           }
 
   -- a call that no early refusal stopped: the paths of its drawing, if it drew
-  pub returns : (t : Try Drawing) → ((d : Drawing) → t ≡ ok d → Exactness closed rect (points_of path) d.0) → {r : Answer} → Leaves (answered l 0 t) r coordinates lengths
-      → r ≡ answer.Drawn c → Returned closed rect path c.paths c.points coordinates lengths
+  pub returns : (t : Try Drawing) → ((d : Drawing) → t ≡ ok d → Exactness closed rect (points_of path) d.0) → {r : Result Counts Refusal} → Leaves (answered l 0 t) r coordinates lengths
+      → r ≡ Ok c → Returned closed rect path c.paths c.points coordinates lengths
   unfolding answered
-  returns (refuse n) exact L er = absurd (let z : outcome (answer.Drawn c) ≡ refused n = rw er at L.answer in let y : ◌≡◌ {A = ℕ} 0 1 = cc in omega arith)
+  returns (refuse n) exact L er = absurd (let z : outcome (Ok c) ≡ refused n = rw er at L.answer in let y : ◌≡◌ {A = ℕ} 0 1 = cc in omega arith)
   returns (ok d) exact L er = shows d (exact d refl) (rw er at L)
 
 -- ---- the call: of an open path with no turns allowed
@@ -103,8 +99,8 @@ module _ (closed : Bool) (A : ℕ) (rect : Rect64) (path : List ℤ) (l : Lent) 
   abbrev drawing : Try Drawing
   drawing = drawing_of closed (no_room W) A rect (points_of path)
 
-  module _ (k : Admission) (ek : checked k ≡ admission early path) where
-    clips_early : (why : Refusal) → k ≡ Refused why → Clips (answered l early drawing) (answer.Refused why) l
+  module _ (k : Result Rect64 Refusal) (ek : checked k ≡ admission early path) where
+    clips_early : (why : Refusal) → k ≡ Err why → Clips (answered l early drawing) (Err why) l
     unfolding answered
     clips_early why e =
         let n = told_stopped path early k ek why e in
@@ -112,13 +108,13 @@ module _ (closed : Bool) (A : ℕ) (rect : Rect64) (path : List ℤ) (l : Lent) 
         record { answer = rw (z, n) refl; coordinates = rw z refl; lengths = rw z refl; store = rw z refl; work = rw z refl }
 
     -- a call that is refused early
-    pub refused_call : (why : Refusal) → k ≡ Refused why → ClipsPath closed A rect path l (answer.Refused why) l
+    pub refused_call : (why : Refusal) → k ≡ Err why → ClipsPath closed A rect path l (Err why) l
     refused_call why e = record {
-      clips = subst (λ (a : After). Clips a (answer.Refused why) l) (sym (call_is closed A rect path l)) (clips_early why e);
+      clips = subst (λ (a : After). Clips a (Err why) l) (sym (call_is closed A rect path l)) (clips_early why e);
       returned = λ c q. absurd (let y : ◌≡◌ {A = ℕ} 0 1 = cc in omega arith);
     }
 
-    module _ (bounds : Rect64) (e : k ≡ Admitted bounds) where
+    module _ (bounds : Rect64) (e : k ≡ Ok bounds) where
       pub allowed : Let W (if closed then A else 0) (length l.work) rect path
       allowed = let_through W (if closed then A else 0) (length l.work) rect path (told_admitted path early k ek bounds e).0
 
@@ -133,7 +129,7 @@ module _ (closed : Bool) (A : ℕ) (rect : Rect64) (path : List ℤ) (l : Lent) 
       exact d q = demand_3 closed (no_room W) A rect path d (call_bounded W (omega (arith, allowed.few))) (T_of allowed.frame) (T_of allowed.points) q
 
       -- a call that is let through: the drawing is worked out, and both working lists are cleared
-      pub drawn_call : {r : Answer} {coordinates' : List ℤ} {lengths' : List ℕ} → Leaves (answered l 0 drawing) r coordinates' lengths'
+      pub drawn_call : {r : Result Counts Refusal} {coordinates' : List ℤ} {lengths' : List ℕ} → Leaves (answered l 0 drawing) r coordinates' lengths'
           → (store1 : List ℤ) (work1 : List ℕ) {store2 : List ℤ} {work2 : List ℕ} → length store1 ≡ length l.store → length work1 ≡ length l.work → store2 ≡ replicate (length store1) (pos 0) → work2 ≡ replicate (length work1) 0
           → ClipsPath closed A rect path l r (lent coordinates' lengths' store2 work2)
       drawn_call {coordinates'} {lengths'} L store1 work1 a b s w = record {
@@ -148,7 +144,7 @@ module _ (closed : Bool) (A : ℕ) (rect : Rect64) (path : List ℤ) (l : Lent) 
       }
 
 -- ---- what the two clippers ask of a call that is let through
-module _ (A : ℕ) (rect : Rect64) (path : List ℤ) (l : Lent) (k : Admission) (bounds : Rect64) (e : k ≡ Admitted bounds) where
+module _ (A : ℕ) (rect : Rect64) (path : List ℤ) (l : Lent) (k : Result Rect64 Refusal) (bounds : Rect64) (e : k ≡ Ok bounds) where
   pub drawable : checked k ≡ admission (early_refusal (length l.store / 2) 0 (length l.work) rect path) path → Drawable rect path bounds l.store l.work
   drawable ek =
       let a = allowed false 0 rect path l k ek bounds e in

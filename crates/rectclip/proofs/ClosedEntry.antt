@@ -24,12 +24,10 @@ use Rattle.theorems.proofs.Entering.{entry_found}
 use Rattle.theorems.proofs.ClosedArea.{walked_not_empty}
 use Rattle.theorems.proofs.FewPoints.{few_points}
 use Rattle.theorems.proofs.FewResults.{few_results}
-use Rattle.entry.specs.declared.answer.Answer.{Answer}
-use Rattle.entry.specs.declared.answer.Answer.TheVariants as answer
+use Rattle.std.specs.Prelude.{Result, Ok, Err}
+use Rattle.entry.specs.declared.answer.Counts.{Counts}
 use Rattle.entry.specs.declared.answer.Refusal.{Refusal}
 use Rattle.rectclip.specs.declared.outline.Outline.{Outline}
-use Rattle.rectclip.specs.declared.outline.Outlined.{Outlined}
-use Rattle.rectclip.specs.declared.outline.Outlined.TheVariants.{Done, Refused}
 use Rattle.entry.specs.Answers.{number}
 use Rattle.rectclip.specs.Outlining.{Drawn, Walks}
 use Rattle.rectclip.specs.Delivering.{walked_of, walk_drawing, Gives, OutlineClips, WalkClips, Clippable}
@@ -60,8 +58,8 @@ module _ {rect : Rect64} {path : List ℤ} {bounds : Rect64} {A : ℕ} {store : 
     paired = record { sheet = record { extent = extent; frame = x.frame; points = x.points }; even = x.even; bound = x.bound };
   }
 
-  module _ {store₁ : List ℤ} {work₁ : List ℕ} {r : Outlined} (d : Drawn (walk_closed (no_room (length store / 2)) rect (points_of path)) store₁ work₁ r) where
-    module _ (o : Outline) (e : r ≡ Done o) where
+  module _ {store₁ : List ℤ} {work₁ : List ℕ} {r : Result Outline Refusal} (d : Drawn (walk_closed (no_room (length store / 2)) rect (points_of path)) store₁ work₁ r) where
+    module _ (o : Outline) (e : r ≡ Ok o) where
       walk_is : walk_closed (no_room (length store / 2)) rect (points_of path) ≡ ok (walked_of store₁ work₁ o)
       walk_is = sym (rw e at d.answer)
 
@@ -81,12 +79,12 @@ module _ {rect : Rect64} {path : List ℤ} {bounds : Rect64} {A : ℕ} {store : 
             (f.0, omega (arith, f.1), omega (arith, x.room.few));
       }
 
-      pub walk_gives : {coordinates : List ℤ} {lengths : List ℕ} {a : Answer} {coordinates' : List ℤ} {lengths' : List ℕ} → Gives (clip_walked A rect (walked_of store₁ work₁ o)) coordinates lengths a coordinates' lengths'
+      pub walk_gives : {coordinates : List ℤ} {lengths : List ℕ} {a : Result Counts Refusal} {coordinates' : List ℤ} {lengths' : List ℕ} → Gives (clip_walked A rect (walked_of store₁ work₁ o)) coordinates lengths a coordinates' lengths'
           → Gives (walk_drawing (no_room (length store / 2)) A rect (points_of path)) coordinates lengths a coordinates' lengths'
       walk_gives G = gives_same (sym drawing_is) G
 
-    pub walk_refuses : (why : Refusal) → r ≡ Refused why → {coordinates : List ℤ} {lengths : List ℕ}
-        → Gives (walk_drawing (no_room (length store / 2)) A rect (points_of path)) coordinates lengths (answer.Refused why) coordinates lengths
+    pub walk_refuses : (why : Refusal) → r ≡ Err why → {coordinates : List ℤ} {lengths : List ℕ}
+        → Gives (walk_drawing (no_room (length store / 2)) A rect (points_of path)) coordinates lengths (Err why) coordinates lengths
     walk_refuses why e =
         let q : walk_closed (no_room (length store / 2)) rect (points_of path) ≡ refuse (number why) = sym (rw e at d.answer) in
         gives_refusal why (ap (λ (t : Try Walked). t >>= clip_walked A rect) q)

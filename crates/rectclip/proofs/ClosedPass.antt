@@ -2,8 +2,8 @@
 use mathlib.Core.Path.{◌≡◌, refl, sym, ◌∙◌, ap, subst}
 use mathlib.Core.Bool.{Bool, true, false}
 use mathlib.Core.List.{List}
-use Prim.Native.Nat.{ℕ, ◌+◌, ◌-◌, ◌/◌, ◌<◌, ◌≤◌}
-use borrow.Author.Tests.{lt-ltb, le-ltb}
+use Prim.Native.Nat.{ℕ, ◌+◌, ◌-◌, ◌/◌, ◌≤◌}
+use borrow.Author.Tests.{le-ltb}
 use lib.IntN.{ℤ}
 use lib.ListN.{length}
 use Rattle.plane.specs.declared.point.Point64.{Point64}
@@ -11,180 +11,165 @@ use Rattle.plane.specs.declared.rect.Rect64.{Rect64}
 use Rattle.plane.specs.declared.location.Location.{Location}
 use Rattle.plane.specs.declared.location.Spot.{Spot}
 use Rattle.plane.specs.declared.crossing.SidePoint.{SidePoint}
-use Rattle.plane.specs.Basics.{ok, ◌>>=◌}
+use Rattle.plane.specs.Basics.{Try, ok, ◌>>=◌}
 use Rattle.plane.specs.Limit.{Limited}
 use Rattle.plane.specs.Locations.{is_inside, same_location}
 use Rattle.plane.specs.Points.{same_point, pt_at, points_of}
 use Rattle.plane.specs.Rectangle.{mid_point, get_location}
 use Rattle.plane.specs.Signs.{is_clockwise_dir}
 use Rattle.plane.proofs.CrossProduct.{mid_point_limited}
-use Rattle.reference.specs.Walk.{no_room, add, push_start_loc, push_start_locs, add_corners, add_corner_prev_curr, second_search, remain_outside, enter, pass_to, pass_through, leave, cross_boundary, pt_before}
+use Rattle.reference.specs.Walk.{Walk, State, add, push_start_loc, push_start_locs, add_corners, add_corner_prev_curr, second_search, remain_outside, enter, pass_to, pass_through, leave, cross_boundary, pt_before}
 use Rattle.entry.specs.declared.answer.Refusal.{Refusal}
-use Rattle.rectclip.specs.declared.walk.WalkState.{WalkState}
-use Rattle.rectclip.specs.declared.walk.Step.{Step}
-use Rattle.rectclip.specs.declared.walk.Step.TheVariants.{Walked}
-use Rattle.rectclip.specs.declared.walk.Step.TheVariants as step
-use Rattle.rectclip.specs.declared.next.NextState.{NextState}
-use Rattle.rectclip.specs.declared.closed.Pass.{Pass}
-use Rattle.rectclip.specs.declared.closed.Advance.{Advance}
-use Rattle.rectclip.specs.declared.closed.Advance.TheVariants.{Refused}
+use Rattle.std.specs.Prelude.{Result, Ok, Err}
+use Rattle.rectclip.specs.declared.walk.Walker.{Walker}
+use Rattle.rectclip.specs.declared.pass.ClosedState.{ClosedState}
+use Rattle.rectclip.specs.declared.pass.Pass.{Pass}
+use Rattle.rectclip.specs.declared.next.Place.{Place}
 use Rattle.rectclip.specs.Bounds.{LimitedTurn}
-use Rattle.rectclip.specs.Walking.{walk_of, AddsCorners, Fits, Stepped}
-use Rattle.rectclip.specs.Moving.{next_of}
-use Rattle.rectclip.specs.Closing.{pass_of, advance_of, moves_on, first_of, enter_corners, pass_corner, pass_start, pass_in, pass_out, Closes, Passing, Advanced}
+use Rattle.rectclip.specs.Moving.{placed}
+use Rattle.rectclip.specs.Steps.{walk, full, next_of, Answers, Steps}
+use Rattle.rectclip.specs.Closing.{passed, state_of, pass_of, moves_on, first_of, enter_corners, pass_corner, pass_start, pass_in, pass_out, Advances}
 use Rattle.rectclip.proofs.Coordinates.{points_length}
 use Rattle.rectclip.proofs.Limits.{framed}
-use Rattle.rectclip.proofs.Walking.{step_walked}
-use Rattle.rectclip.proofs.Closing.{advance_as, step_as, step_next, step_lost, step_then, step_stops, step_ends, roomed, outside_starts, outside_corners, outside_stays, entry_first, entry_same, entry_corners, entry_parts, leave_parts, corner_passed, corner_none, start_first, start_none, in_parts, out_corner, out_point, pass_parts, through_second, crossing_enters, crossing_passes, crossing_leaves}
+use Rattle.rectclip.proofs.Steps.{on, stays, named, step_then, step_lost, read_as}
+use Rattle.rectclip.proofs.Closing.{outside_starts, outside_corners, outside_stays, entry_first, entry_same, entry_corners, entry_parts, leave_parts, corner_passed, corner_none, start_first, start_none, in_parts, out_corner, out_point, pass_parts, through_second, crossing_enters, crossing_passes, crossing_leaves}
 
 -- ---- points within the limit
-pub turn_limited : {rect : Rect64} {c : Pass} {m : Point64} → Closes rect c → m ≡ mid_point rect → LimitedTurn c.prev_pt m c.pt
-turn_limited {rect} H e = record { first = H.start; second = subst Limited (sym e) (mid_point_limited rect (framed rect H.frame)); third = H.end }
-
-pub corners_of : {rect : Rect64} {store : List ℤ} {work : List ℕ} {c : Pass} → Passing rect store work c → AddsCorners rect store work c.walk
-corners_of H = record { fits = H.fits; limit = H.closes.frame }
+pub turn_limited : (x : Walker) (c : Pass) {m : Point64} → m ≡ mid_point x.rect → LimitedTurn c.prev_pt m c.pt
+turn_limited x c e = record { first = c.start; second = subst Limited (sym e) (mid_point_limited x.rect (framed x.rect x.sheet.frame)); third = c.end }
 
 -- ---- the point before
-pub before_some : (path : List ℤ) (i : ℕ) → 0 < i → pt_at (points_of path) (i - 1) ≡ pt_before (points_of path) i
-before_some path i h = rw (lt-ltb 0 i h) refl
-
 pub before_first : (path : List ℤ) (i : ℕ) → i ≤ 0 → pt_at (points_of path) (length path / 2 - 1) ≡ pt_before (points_of path) i
 before_first path i h = rw (le-ltb 0 i h, points_length path) refl
 
--- ---- no crossing is found
-abbrev pub room : List ℤ → ℕ → Bool
-room store = no_room (length store / 2)
+-- a step that answers nothing more than the walk, of a definition that has the state s beside it
+abbrev pub Ends : ClosedState → Try State → Walker → Walker → Result Unit Refusal → Type 0
+Ends s = Answers (λ y u. state_of y s)
 
+-- ---- no crossing is found
 abbrev turn : Rect64 → Pass → Location → Bool
 turn rect c l = is_clockwise_dir c.prev l c.prev_pt c.pt (mid_point rect)
 
-module _ (rect : Rect64) (store : List ℤ) (work : List ℕ) (c : Pass) where
-  pub remain_starts : {b : Bool} → b ≡ is_inside c.crossing_prev → b ≡ true → {cw : Bool} → cw ≡ turn rect c c.loc → {store' : List ℤ} {work' : List ℕ} {r : Step}
-      → ((q : Rect64) → Stepped (push_start_locs (room store) q 4 (walk_of store work c.walk) c.prev c.loc cw) store' work' r)
-      → {a : Advance} → a ≡ advance_of r (c.i + 1) c.loc c.crossing_prev c.first_cross → Advanced (remain_outside (room store) rect (pass_of store work c)) store' work' a
-  remain_starts eb t ec R ea =
-      advance_as (outside_starts (room store) rect (pass_of store work c) (sym eb ∙ t)) (step_ends (rw ec at (R rect)) (c.i + 1) c.loc c.crossing_prev c.first_cross ea)
+-- the state behind a pass that finds none
+abbrev pub went_on : Pass → Location → ClosedState
+went_on c x = record { i = c.i + 1; loc = c.loc; crossing_loc = x; first_cross = c.first_cross }
 
-  pub remain_corners : {b : Bool} → b ≡ is_inside c.crossing_prev → b ≡ false → {d : Bool} → d ≡ moves_on c.prev c.loc → d ≡ true → {cw : Bool} → cw ≡ turn rect c c.loc → {store' : List ℤ} {work' : List ℕ} {r : Step}
-      → Stepped (add_corners (room store) rect 4 (walk_of store work c.walk) c.prev c.loc cw) store' work' r
-      → {a : Advance} → a ≡ advance_of r (c.i + 1) c.loc c.loc c.first_cross → Advanced (remain_outside (room store) rect (pass_of store work c)) store' work' a
-  remain_corners eb t ed u ec R ea =
-      advance_as (outside_corners (room store) rect (pass_of store work c) (sym eb ∙ t) (sym ed ∙ u)) (step_ends (rw ec at R) (c.i + 1) c.loc c.loc c.first_cross ea)
+module _ (x : Walker) (c : Pass) {b : Bool} (eb : b ≡ is_inside c.crossing_prev) where
+  module _ {cw : Bool} (ec : cw ≡ turn x.rect c c.loc) {y : Walker} {r : Result Unit Refusal} where
+    pub remain_starts : b ≡ true → Steps (push_start_locs (full x) x.rect 4 (walk x) c.prev c.loc cw) x y r → Ends (went_on c c.crossing_prev) (remain_outside (full x) x.rect (pass_of x c)) x y r
+    remain_starts t R = named (read_as (rw ec at R) (λ w. passed w (went_on c c.crossing_prev)) (λ u. refl)) (outside_starts (full x) x.rect (pass_of x c) (sym eb ∙ t))
 
-  pub remain_stays : Fits store work c.walk → {b : Bool} → b ≡ is_inside c.crossing_prev → b ≡ false → {d : Bool} → d ≡ moves_on c.prev c.loc → d ≡ false
-      → {a : Advance} → a ≡ advance_of (Walked c.walk) (c.i + 1) c.loc c.loc c.first_cross → Advanced (remain_outside (room store) rect (pass_of store work c)) store work a
-  remain_stays F eb t ed u ea =
-      advance_as (outside_stays (room store) rect (pass_of store work c) (sym eb ∙ t) (sym ed ∙ u)) (step_ends (step_walked refl F) (c.i + 1) c.loc c.loc c.first_cross ea)
+    pub remain_corners : b ≡ false → {d : Bool} → d ≡ moves_on c.prev c.loc → d ≡ true → Steps (add_corners (full x) x.rect 4 (walk x) c.prev c.loc cw) x y r → Ends (went_on c c.loc) (remain_outside (full x) x.rect (pass_of x c)) x y r
+    remain_corners t ed v R = named (read_as (rw ec at R) (λ w. passed w (went_on c c.loc)) (λ u. refl)) (outside_corners (full x) x.rect (pass_of x c) (sym eb ∙ t) (sym ed ∙ v))
 
-  -- ---- entering
-  module _ (x : Location) {b : Bool} (eb : b ≡ is_inside c.first_cross) where
-    pub corners_first : b ≡ true → {work' : List ℕ} {r : Step} → Stepped (push_start_loc (room store) (walk_of store work c.walk) c.prev) store work' r → Stepped (enter_corners (room store) rect (pass_of store work c) x) store work' r
-    corners_first t R = step_as R (entry_first (room store) rect (pass_of store work c) x (sym eb ∙ t))
+  pub remain_stays : b ≡ false → {d : Bool} → d ≡ moves_on c.prev c.loc → d ≡ false → Advances (remain_outside (full x) x.rect (pass_of x c)) x x (Ok (went_on c c.loc))
+  remain_stays t ed v = stays (outside_stays (full x) x.rect (pass_of x c) (sym eb ∙ t) (sym ed ∙ v))
 
-    pub corners_same : Fits store work c.walk → b ≡ false → {d : Bool} → d ≡ same_location c.prev x → d ≡ true → Stepped (enter_corners (room store) rect (pass_of store work c) x) store work (Walked c.walk)
-    corners_same F t ed u = step_as (step_walked refl F) (entry_same (room store) rect (pass_of store work c) x (sym eb ∙ t) (sym ed ∙ u))
+-- ---- entering
+module _ (x : Walker) (c : Pass) (l : Location) {b : Bool} (eb : b ≡ is_inside c.first_cross) where
+  module _ {y : Walker} {r : Result Unit Refusal} where
+    pub corners_first : b ≡ true → Steps (push_start_loc (full x) (walk x) c.prev) x y r → Steps (enter_corners (full x) x.rect (pass_of x c) l) x y r
+    corners_first t R = named R (entry_first (full x) x.rect (pass_of x c) l (sym eb ∙ t))
 
-    pub corners_other : b ≡ false → {d : Bool} → d ≡ same_location c.prev x → d ≡ false → {cw : Bool} → cw ≡ turn rect c x → {store' : List ℤ} {work' : List ℕ} {r : Step}
-        → Stepped (add_corners (room store) rect 4 (walk_of store work c.walk) c.prev x cw) store' work' r → Stepped (enter_corners (room store) rect (pass_of store work c) x) store' work' r
-    corners_other t ed u ec R = step_as (rw ec at R) (entry_corners (room store) rect (pass_of store work c) x (sym eb ∙ t) (sym ed ∙ u))
+    pub corners_other : b ≡ false → {d : Bool} → d ≡ same_location c.prev l → d ≡ false → {cw : Bool} → cw ≡ turn x.rect c l
+        → Steps (add_corners (full x) x.rect 4 (walk x) c.prev l cw) x y r → Steps (enter_corners (full x) x.rect (pass_of x c) l) x y r
+    corners_other t ed v ec R = named (rw ec at R) (entry_corners (full x) x.rect (pass_of x c) l (sym eb ∙ t) (sym ed ∙ v))
 
-  module _ (x : Location) (ip : Point64) {store' : List ℤ} {work' : List ℕ} {r : Step} (R : Stepped (enter_corners (room store) rect (pass_of store work c) x) store' work' r) where
-    pub enter_walked : {w : WalkState} → r ≡ Walked w → length store' ≡ length store → {store'' : List ℤ} {work'' : List ℕ} {q : Step}
-        → Stepped (add (no_room (length store' / 2)) (walk_of store' work' w) ip false) store'' work'' q → {f : Location} → f ≡ first_of c.first_cross x
-        → {a : Advance} → a ≡ advance_of q c.i c.loc x f → Advanced (enter (room store) rect (pass_of store work c) ip x) store'' work'' a
-    enter_walked {w} e k {store''} {work''} {q} Q {f} ef {a} ea =
-        advance_as (entry_parts (room store) rect (pass_of store work c) x ip)
-        (step_then R e (λ w. add (room store) w ip false >>= λ v. ok (record { walk = v; i = c.i; loc = c.loc; crossing_loc = x; first_cross = first_of c.first_cross x }))
-        (step_ends (step_as Q (roomed k (λ n. add n (walk_of store' work' w) ip false))) c.i c.loc x (first_of c.first_cross x) (rw ef at ea)))
+  pub corners_same : b ≡ false → {d : Bool} → d ≡ same_location c.prev l → d ≡ true → Steps (enter_corners (full x) x.rect (pass_of x c) l) x x (Ok tt)
+  corners_same t ed v = stays (entry_same (full x) x.rect (pass_of x c) l (sym eb ∙ t) (sym ed ∙ v))
 
-    pub enter_refused : {k : Refusal} → r ≡ step.Refused k → Advanced (enter (room store) rect (pass_of store work c) ip x) store' work' (Refused k)
-    enter_refused e = advance_as (entry_parts (room store) rect (pass_of store work c) x ip) (step_stops R e (λ w. add (room store) w ip false >>= λ v. ok (record { walk = v; i = c.i; loc = c.loc; crossing_loc = x; first_cross = first_of c.first_cross x })))
+-- the state behind an entry, and behind an exit
+abbrev pub came_in : Pass → Location → ClosedState
+came_in c l = record { i = c.i; loc = c.loc; crossing_loc = l; first_cross = first_of c.first_cross l }
 
-  -- ---- exiting
-  pub leave_added : (x : Location) (ip : Point64) {f : Location} → f ≡ first_of c.first_cross x → {store' : List ℤ} {work' : List ℕ} {r : Step} → Stepped (add (room store) (walk_of store work c.walk) ip false) store' work' r
-      → {a : Advance} → a ≡ advance_of r c.i x x f → Advanced (leave (room store) rect (pass_of store work c) ip x) store' work' a
-  leave_added x ip ef R ea = advance_as (leave_parts (room store) rect (pass_of store work c) x ip) (step_ends R c.i x x (first_of c.first_cross x) (rw ef at ea))
+abbrev pub went_out : Pass → Location → ClosedState
+went_out c l = record { i = c.i; loc = l; crossing_loc = l; first_cross = first_of c.first_cross l }
+
+-- a point is added, and the state is s
+abbrev added_at : Point64 → ClosedState → (ℕ → Bool) → Rect64 → List Point64 → Walk → Try State
+added_at ip s full rect path w = add full w ip false >>= λ v. ok (passed v s)
+
+module _ (x : Walker) (c : Pass) (l : Location) (ip : Point64) where
+  module _ {y : Walker} {r : Result Unit Refusal} (R : Steps (enter_corners (full x) x.rect (pass_of x c) l) x y r) where
+    pub enter_lost : {why : Refusal} → r ≡ Err why → Advances (enter (full x) x.rect (pass_of x c) ip l) x y (Err why)
+    enter_lost e = named (step_lost R e (on (added_at ip (came_in c l)) x)) (entry_parts (full x) x.rect (pass_of x c) l ip)
+
+    pub enter_on : {u : Unit} → r ≡ Ok u → {z : Walker} {q : Result Unit Refusal} → Steps (add (full y) (walk y) ip false) y z q → Ends (came_in c l) (enter (full x) x.rect (pass_of x c) ip l) x z q
+    enter_on e Q = named (step_then R e (added_at ip (came_in c l)) (read_as Q (λ v. passed v (came_in c l)) (λ u. refl))) (entry_parts (full x) x.rect (pass_of x c) l ip)
+
+  pub leave_added : {y : Walker} {r : Result Unit Refusal} → Steps (add (full x) (walk x) ip false) x y r → Ends (went_out c l) (leave (full x) x.rect (pass_of x c) ip l) x y r
+  leave_added R = named (read_as R (λ v. passed v (went_out c l)) (λ u. refl)) (leave_parts (full x) x.rect (pass_of x c) l ip)
 
 -- ---- passing right through: coming in
-module _ (rect : Rect64) (store : List ℤ) (work : List ℕ) where
-  module _ (s : WalkState) (x loc : Location) {b : Bool} (eb : b ≡ moves_on x loc) where
-    pub corner_turned : b ≡ true → {store' : List ℤ} {work' : List ℕ} {r : Step} → Stepped (add_corner_prev_curr (room store) rect (walk_of store work s) x loc) store' work' r
-        → Stepped (pass_corner (room store) rect (walk_of store work s) x loc) store' work' r
-    corner_turned t R = step_as R (corner_passed (room store) rect (walk_of store work s) x loc (sym eb ∙ t))
+module _ (x : Walker) where
+  module _ (p l : Location) {b : Bool} (eb : b ≡ moves_on p l) where
+    pub corner_turned : b ≡ true → {y : Walker} {r : Result Unit Refusal} → Steps (add_corner_prev_curr (full x) x.rect (walk x) p l) x y r → Steps (pass_corner (full x) x.rect (walk x) p l) x y r
+    corner_turned t R = named R (corner_passed (full x) x.rect (walk x) p l (sym eb ∙ t))
 
-    pub corner_kept : Fits store work s → b ≡ false → Stepped (pass_corner (room store) rect (walk_of store work s) x loc) store work (Walked s)
-    corner_kept F t = step_as (step_walked refl F) (corner_none (room store) rect (walk_of store work s) x loc (sym eb ∙ t))
+    pub corner_kept : b ≡ false → Steps (pass_corner (full x) x.rect (walk x) p l) x x (Ok tt)
+    corner_kept t = stays (corner_none (full x) x.rect (walk x) p l (sym eb ∙ t))
 
-  module _ (s : WalkState) (f prev : Location) {b : Bool} (eb : b ≡ is_inside f) where
-    pub start_pushed : b ≡ true → {work' : List ℕ} {r : Step} → Stepped (push_start_loc (room store) (walk_of store work s) prev) store work' r → Stepped (pass_start (room store) (walk_of store work s) f prev) store work' r
-    start_pushed t R = step_as R (start_first (room store) (walk_of store work s) f prev (sym eb ∙ t))
+  module _ (f p : Location) {b : Bool} (eb : b ≡ is_inside f) where
+    pub start_pushed : b ≡ true → {y : Walker} {r : Result Unit Refusal} → Steps (push_start_loc (full x) (walk x) p) x y r → Steps (pass_start (full x) (walk x) f p) x y r
+    start_pushed t R = named R (start_first (full x) (walk x) f p (sym eb ∙ t))
 
-    pub start_kept : Fits store work s → b ≡ false → Stepped (pass_start (room store) (walk_of store work s) f prev) store work (Walked s)
-    start_kept F t = step_as (step_walked refl F) (start_none (room store) (walk_of store work s) f prev (sym eb ∙ t))
+    pub start_kept : b ≡ false → Steps (pass_start (full x) (walk x) f p) x x (Ok tt)
+    start_kept t = stays (start_none (full x) (walk x) f p (sym eb ∙ t))
 
-  module _ (c : Pass) (ip2 : Point64) (loc : Location) {store₁ : List ℤ} {work₁ : List ℕ} {r : Step}
-      (R : Stepped (pass_corner (room store) rect (walk_of store work c.walk) c.crossing_prev loc) store₁ work₁ r) where
-    pub in_lost : {k : Refusal} → r ≡ step.Refused k → Stepped (pass_in (room store) rect (pass_of store work c) ip2 loc) store₁ work₁ r
-    in_lost e = step_as (step_lost R e (λ w. pass_start (room store) w c.first_cross c.prev >>= λ v. add (room store) v ip2 false)) (in_parts (room store) rect (pass_of store work c) ip2 loc)
+  module _ (c : Pass) (ip2 : Point64) (l : Location) where
+    abbrev come : (ℕ → Bool) → Rect64 → List Point64 → Walk → Try Walk
+    come full rect path w = add full w ip2 false
 
-    module _ {w : WalkState} (e : r ≡ Walked w) (k : length store₁ ≡ length store) {work₂ : List ℕ} {q : Step}
-        (Q : Stepped (pass_start (room store₁) (walk_of store₁ work₁ w) c.first_cross c.prev) store₁ work₂ q) where
-      started : Stepped (pass_start (room store) (walk_of store₁ work₁ w) c.first_cross c.prev) store₁ work₂ q
-      started = step_as Q (roomed k (λ n. pass_start n (walk_of store₁ work₁ w) c.first_cross c.prev))
+    abbrev start_and_come : (ℕ → Bool) → Rect64 → List Point64 → Walk → Try Walk
+    start_and_come full rect path w = pass_start full w c.first_cross c.prev >>= come full rect path
 
-      pub in_stopped : {n : Refusal} → q ≡ step.Refused n → Stepped (pass_in (room store) rect (pass_of store work c) ip2 loc) store₁ work₂ q
-      in_stopped f =
-          step_as
-          (step_next R e (λ w. pass_start (room store) w c.first_cross c.prev >>= λ v. add (room store) v ip2 false) (step_lost started f (λ v. add (room store) v ip2 false)))
-          (in_parts (room store) rect (pass_of store work c) ip2 loc)
+    module _ {y : Walker} {r : Result Unit Refusal} (R : Steps (pass_corner (full x) x.rect (walk x) c.crossing_prev l) x y r) where
+      pub in_lost : {why : Refusal} → r ≡ Err why → Steps (pass_in (full x) x.rect (pass_of x c) ip2 l) x y (Err why)
+      in_lost e = named (step_lost R e (on start_and_come x)) (in_parts (full x) x.rect (pass_of x c) ip2 l)
 
-      pub in_added : {v : WalkState} → q ≡ Walked v → {store₃ : List ℤ} {work₃ : List ℕ} {p : Step} → Stepped (add (room store₁) (walk_of store₁ work₂ v) ip2 false) store₃ work₃ p
-          → Stepped (pass_in (room store) rect (pass_of store work c) ip2 loc) store₃ work₃ p
-      in_added {v} f T =
-          step_as
-          (step_next R e (λ w. pass_start (room store) w c.first_cross c.prev >>= λ v. add (room store) v ip2 false)
-          (step_next started f (λ v. add (room store) v ip2 false) (step_as T (roomed k (λ n. add n (walk_of store₁ work₂ v) ip2 false)))))
-          (in_parts (room store) rect (pass_of store work c) ip2 loc)
+      module _ {u : Unit} (e : r ≡ Ok u) {z : Walker} {q : Result Unit Refusal} (Q : Steps (pass_start (full y) (walk y) c.first_cross c.prev) y z q) where
+        pub in_stopped : {why : Refusal} → q ≡ Err why → Steps (pass_in (full x) x.rect (pass_of x c) ip2 l) x z (Err why)
+        in_stopped f = named (step_then R e start_and_come (step_lost Q f (on come y))) (in_parts (full x) x.rect (pass_of x c) ip2 l)
+
+        pub in_added : {v : Unit} → q ≡ Ok v → {z' : Walker} {t : Result Unit Refusal} → Steps (add (full z) (walk z) ip2 false) z z' t → Steps (pass_in (full x) x.rect (pass_of x c) ip2 l) x z' t
+        in_added f T = named (step_then R e start_and_come (step_then Q f come T)) (in_parts (full x) x.rect (pass_of x c) ip2 l)
 
 -- ---- and going out
-module _ (rect : Rect64) (store : List ℤ) (work : List ℕ) (at : NextState) (pt ip ip2 : Point64) (f : Location) {b : Bool} (eb : b ≡ same_point ip ip2)
-    {store' : List ℤ} {work' : List ℕ} {r : Step} where
-  pub out_turned : b ≡ true → {s : Spot} → s ≡ get_location rect pt → Stepped (add_corner_prev_curr (room store) rect (walk_of store work at.walk) at.loc s.loc) store' work' r
-      → {a : Advance} → a ≡ advance_of r at.i s.loc s.loc f → Advanced (pass_out (room store) rect (next_of store work at) pt ip ip2 f) store' work' a
-  out_turned t {s} es R ea =
-      advance_as (out_corner (room store) rect (next_of store work at) pt ip ip2 f (sym eb ∙ t) s.loc (ap (λ (s : Spot). s.loc) es)) (step_ends R at.i s.loc s.loc f ea)
+-- the state behind it
+abbrev pub out_on : Place → Location → Location → ClosedState
+out_on at l f = record { i = at.i; loc = l; crossing_loc = l; first_cross = f }
 
-  pub out_added : b ≡ false → Stepped (add (room store) (walk_of store work at.walk) ip false) store' work' r
-      → {a : Advance} → a ≡ advance_of r at.i at.loc at.loc f → Advanced (pass_out (room store) rect (next_of store work at) pt ip ip2 f) store' work' a
-  out_added t R ea = advance_as (out_point (room store) rect (next_of store work at) pt ip ip2 f (sym eb ∙ t)) (step_ends R at.i at.loc at.loc f ea)
+module _ (x : Walker) (at : Place) (pt ip ip2 : Point64) (f : Location) {b : Bool} (eb : b ≡ same_point ip ip2) {y : Walker} {r : Result Unit Refusal} where
+  pub out_turned : b ≡ true → {s : Spot} → s ≡ get_location x.rect pt → Steps (add_corner_prev_curr (full x) x.rect (walk x) at.loc s.loc) x y r → Ends (out_on at s.loc f) (pass_out (full x) x.rect (next_of x at) pt ip ip2 f) x y r
+  out_turned t {s} es R = named (read_as R (λ v. passed v (out_on at s.loc f)) (λ u. refl)) (out_corner (full x) x.rect (next_of x at) pt ip ip2 f (sym eb ∙ t) s.loc (ap (λ (s : Spot). s.loc) es))
 
-module _ (rect : Rect64) (store : List ℤ) (work : List ℕ) (c : Pass) (ip : Point64) (x : Location) where
-  module _ (ip2 : Point64) (loc : Location) {store₁ : List ℤ} {work₁ : List ℕ} {r : Step} (R : Stepped (pass_in (room store) rect (pass_of store work c) ip2 loc) store₁ work₁ r) where
-    pub to_lost : {k : Refusal} → r ≡ step.Refused k → Advanced (pass_to (room store) rect (pass_of store work c) ip x ip2 loc) store₁ work₁ (Refused k)
-    to_lost e =
-        advance_as (pass_parts (room store) rect (pass_of store work c) ip x ip2 loc)
-        (step_stops R e (λ w. pass_out (room store) rect (record { walk = w; loc = x; i = c.i }) c.pt ip ip2 (first_of c.first_cross loc)))
+  pub out_added : b ≡ false → Steps (add (full x) (walk x) ip false) x y r → Ends (out_on at at.loc f) (pass_out (full x) x.rect (next_of x at) pt ip ip2 f) x y r
+  out_added t R = named (read_as R (λ v. passed v (out_on at at.loc f)) (λ u. refl)) (out_point (full x) x.rect (next_of x at) pt ip ip2 f (sym eb ∙ t))
 
-    pub to_out : {w : WalkState} → r ≡ Walked w → length store₁ ≡ length store → {f : Location} → f ≡ first_of c.first_cross loc → {store₂ : List ℤ} {work₂ : List ℕ} {a : Advance}
-        → Advanced (pass_out (room store₁) rect (next_of store₁ work₁ (record { walk = w; loc = x; i = c.i })) c.pt ip ip2 f) store₂ work₂ a
-        → Advanced (pass_to (room store) rect (pass_of store work c) ip x ip2 loc) store₂ work₂ a
-    to_out {w} e k {f} ef A =
-        advance_as (pass_parts (room store) rect (pass_of store work c) ip x ip2 loc)
-        (step_then R e (λ w. pass_out (room store) rect (record { walk = w; loc = x; i = c.i }) c.pt ip ip2 (first_of c.first_cross loc))
-        (advance_as (roomed k (λ n. pass_out n rect (next_of store₁ work₁ (record { walk = w; loc = x; i = c.i })) c.pt ip ip2 (first_of c.first_cross loc))) (rw ef at A)))
+module _ (x : Walker) (c : Pass) (ip : Point64) (l : Location) where
+  module _ (ip2 : Point64) (l2 : Location) {y : Walker} {r : Result Unit Refusal} (R : Steps (pass_in (full x) x.rect (pass_of x c) ip2 l2) x y r) where
+    abbrev go_out : (ℕ → Bool) → Rect64 → List Point64 → Walk → Try State
+    go_out full rect path w = pass_out full rect (placed w (record { loc = l; i = c.i })) c.pt ip ip2 (first_of c.first_cross l2)
 
-  pub passed_through : {q : SidePoint} → q ≡ second_search rect c.prev_pt c.pt c.prev ip → {store' : List ℤ} {work' : List ℕ} {a : Advance}
-      → Advanced (pass_to (room store) rect (pass_of store work c) ip x q.point q.side) store' work' a → Advanced (pass_through (room store) rect (pass_of store work c) ip x) store' work' a
-  passed_through e A = advance_as (through_second (room store) rect (pass_of store work c) x ip e) A
+    pub to_lost : {why : Refusal} → r ≡ Err why → Advances (pass_to (full x) x.rect (pass_of x c) ip l ip2 l2) x y (Err why)
+    to_lost e = named (step_lost R e (on go_out x)) (pass_parts (full x) x.rect (pass_of x c) ip l ip2 l2)
 
-  -- ---- crossing the boundary, by where the segment comes from and goes to
-  module _ {b : Bool} (eb : b ≡ is_inside c.loc) {store' : List ℤ} {work' : List ℕ} {a : Advance} where
-    pub crossed_in : b ≡ true → Advanced (enter (room store) rect (pass_of store work c) ip x) store' work' a → Advanced (cross_boundary (room store) rect (pass_of store work c) ip x) store' work' a
-    crossed_in t A = advance_as (crossing_enters (room store) rect (pass_of store work c) x ip (sym eb ∙ t)) A
+    pub to_out : {u : Unit} → r ≡ Ok u → {f : Location} → f ≡ first_of c.first_cross l2 → {z : Walker} {a : Result ClosedState Refusal}
+        → Advances (pass_out (full y) y.rect (next_of y (record { loc = l; i = c.i })) c.pt ip ip2 f) y z a → Advances (pass_to (full x) x.rect (pass_of x c) ip l ip2 l2) x z a
+    to_out e ef A = named (step_then R e go_out (rw ef at A)) (pass_parts (full x) x.rect (pass_of x c) ip l ip2 l2)
 
-    module _ (t : b ≡ false) {d : Bool} (ed : d ≡ is_inside c.prev) where
-      pub crossed_out : d ≡ true → Advanced (leave (room store) rect (pass_of store work c) ip x) store' work' a → Advanced (cross_boundary (room store) rect (pass_of store work c) ip x) store' work' a
-      crossed_out u A = advance_as (crossing_leaves (room store) rect (pass_of store work c) x ip (sym eb ∙ t) (sym ed ∙ u)) A
+  module _ {y : Walker} {a : Result ClosedState Refusal} where
+    pub passed_through : {q : SidePoint} → q ≡ second_search x.rect c.prev_pt c.pt c.prev ip → Advances (pass_to (full x) x.rect (pass_of x c) ip l q.point q.side) x y a → Advances (pass_through (full x) x.rect (pass_of x c) ip l) x y a
+    passed_through e A = named A (through_second (full x) x.rect (pass_of x c) l ip e)
 
-      pub crossed_over : d ≡ false → Advanced (pass_through (room store) rect (pass_of store work c) ip x) store' work' a → Advanced (cross_boundary (room store) rect (pass_of store work c) ip x) store' work' a
-      crossed_over u A = advance_as (crossing_passes (room store) rect (pass_of store work c) x ip (sym eb ∙ t) (sym ed ∙ u)) A
+    -- ---- crossing the boundary, by where the segment comes from and goes to
+    module _ {b : Bool} (eb : b ≡ is_inside c.loc) where
+      pub crossed_in : b ≡ true → Advances (enter (full x) x.rect (pass_of x c) ip l) x y a → Advances (cross_boundary (full x) x.rect (pass_of x c) ip l) x y a
+      crossed_in t A = named A (crossing_enters (full x) x.rect (pass_of x c) l ip (sym eb ∙ t))
+
+      module _ (t : b ≡ false) {d : Bool} (ed : d ≡ is_inside c.prev) where
+        pub crossed_out : d ≡ true → Advances (leave (full x) x.rect (pass_of x c) ip l) x y a → Advances (cross_boundary (full x) x.rect (pass_of x c) ip l) x y a
+        crossed_out v A = named A (crossing_leaves (full x) x.rect (pass_of x c) l ip (sym eb ∙ t) (sym ed ∙ v))
+
+        pub crossed_over : d ≡ false → Advances (pass_through (full x) x.rect (pass_of x c) ip l) x y a → Advances (cross_boundary (full x) x.rect (pass_of x c) ip l) x y a
+        crossed_over v A = named A (crossing_passes (full x) x.rect (pass_of x c) l ip (sym eb ∙ t) (sym ed ∙ v))

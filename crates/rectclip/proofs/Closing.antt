@@ -1,85 +1,24 @@
--- A pass of the closed walk: what follows a step, and each of its cases. Assumes nothing.
-use mathlib.Core.Path.{◌≡◌, refl, sym, ◌∙◌, ap, subst}
+-- A pass of the closed walk, by its cases. Assumes nothing.
+use mathlib.Core.Path.{◌≡◌, refl, ◌∙◌, ap}
 use mathlib.Core.Bool.{Bool, true, false}
 use mathlib.Core.List.{List}
-use Prim.Native.Nat.{ℕ, ◌+◌, ◌/◌, ◌<◌, ◌≤◌}
-use native.Mathlib.Omega.{arith}
+use Prim.Native.Nat.{ℕ, ◌+◌, ◌<◌, ◌≤◌}
 use borrow.Author.Tests.{le-leb, lt-leb}
-use lib.IntN.{ℤ}
 use lib.ListN.{length}
 use Rattle.plane.specs.declared.point.Point64.{Point64}
 use Rattle.plane.specs.declared.rect.Rect64.{Rect64}
 use Rattle.plane.specs.declared.location.Location.{Location}
-use Rattle.plane.specs.declared.crossing.Search.TheVariants.{Missed, Found}
 use Rattle.plane.specs.declared.crossing.SidePoint.{SidePoint}
 use Rattle.plane.specs.Basics.{Try, refuse, ok, ◌>>=◌}
-use Rattle.plane.specs.Intersection.{get_intersection}
+use Rattle.plane.specs.Intersection.{found_at, get_intersection}
 use Rattle.plane.specs.Locations.{is_inside, same_location}
 use Rattle.plane.specs.Points.{same_point, pt_at}
 use Rattle.plane.specs.Rectangle.{mid_point, get_location}
 use Rattle.plane.specs.Signs.{is_clockwise_dir}
 use Rattle.reference.specs.Walk.{Walk, State, no_room, add, push_start_loc, push_start_locs, add_corners, add_corner_prev_curr, second_search, remain_outside, enter, pass_to, pass_through, leave, cross_boundary, pt_before, pass_from}
 use Rattle.reference.specs.Walk as def
-use Rattle.entry.specs.declared.answer.Refusal.{Refusal}
-use Rattle.entry.specs.Answers.{number}
-use Rattle.rectclip.specs.declared.walk.WalkState.{WalkState}
-use Rattle.rectclip.specs.declared.walk.Step.{Step}
-use Rattle.rectclip.specs.declared.walk.Step.TheVariants.{Walked}
-use Rattle.rectclip.specs.declared.walk.Step.TheVariants as step
-use Rattle.rectclip.specs.declared.closed.ClosedState.{ClosedState}
-use Rattle.rectclip.specs.declared.closed.Advance.{Advance}
-use Rattle.rectclip.specs.declared.closed.Advance.TheVariants.{On, Refused}
-use Rattle.rectclip.specs.Walking.{walk_of, Fits, Stepped}
-use Rattle.rectclip.specs.Closing.{closed_state_of, advance_of, moves_on, first_of, enter_corners, pass_corner, pass_start, pass_in, pass_out, Advanced}
-use Rattle.rectclip.proofs.Walking.{on_ok, on_refuse, step_refused, walked_is, refused_is}
-
--- ---- how a pass ends
-module _ {goal : Try State} {store : List ℤ} {work : List ℕ} where
-  pub advance_on : {s : ClosedState} → ok (closed_state_of store work s) ≡ goal → Fits store work s.walk → Advanced goal store work (On s)
-  advance_on {s} e F = record { answer = e; fits = λ t q. let z : s ≡ t = cc in subst (λ (t : ClosedState). Fits store work t.walk) z F }
-
-  pub advance_refused : {n : Refusal} → refuse (number n) ≡ goal → Advanced goal store work (Refused n)
-  advance_refused e = record { answer = e; fits = λ t q. absurd (let z : ◌≡◌ {A = ℕ} 0 1 = cc in omega arith) }
-
-  pub on_is : {s : ClosedState} {r : Advance} → Advanced goal store work r → r ≡ On s → ok (closed_state_of store work s) ≡ goal
-  on_is R e = rw e at R.answer
-
-  pub stopped_is : {n : Refusal} {r : Advance} → Advanced goal store work r → r ≡ Refused n → refuse (number n) ≡ goal
-  stopped_is R e = rw e at R.answer
-
-  -- another way to say what was to be done
-  pub advance_as : {goal' : Try State} {r : Advance} → goal ≡ goal' → Advanced goal store work r → Advanced goal' store work r
-  advance_as {goal'} {r} e R = subst (λ (g : Try State). Advanced g store work r) e R
-
--- ---- what follows a step
-module _ {goal : Try Walk} {store : List ℤ} {work : List ℕ} {r : Step} (R : Stepped goal store work r) where
-  pub step_as : {goal' : Try Walk} → goal ≡ goal' → Stepped goal' store work r
-  step_as {goal'} e = subst (λ (g : Try Walk). Stepped g store work r) e R
-
-  pub step_next : {s : WalkState} → r ≡ Walked s → (f : Walk → Try Walk) {store' : List ℤ} {work' : List ℕ} {q : Step} → Stepped (f (walk_of store work s)) store' work' q → Stepped (goal >>= f) store' work' q
-  step_next {s} e f {store'} {work'} {q} Q = subst (λ (g : Try Walk). Stepped g store' work' q) (on_ok f (walked_is R e)) Q
-
-  pub step_lost : {k : Refusal} → r ≡ step.Refused k → (f : Walk → Try Walk) → Stepped (goal >>= f) store work r
-  step_lost {k} e f = subst (λ (q : Step). Stepped (goal >>= f) store work q) (sym e) (step_refused (on_refuse f (refused_is R e)))
-
-  pub step_then : {s : WalkState} → r ≡ Walked s → (f : Walk → Try State) {store' : List ℤ} {work' : List ℕ} {a : Advance} → Advanced (f (walk_of store work s)) store' work' a → Advanced (goal >>= f) store' work' a
-  step_then e f A = advance_as (on_ok f (walked_is R e)) A
-
-  pub step_stops : {k : Refusal} → r ≡ step.Refused k → (f : Walk → Try State) → Advanced (goal >>= f) store work (Refused k)
-  step_stops e f = advance_refused (on_refuse f (refused_is R e))
-
-  -- a step is the end of the pass
-  pub step_ends : (i : ℕ) (loc x f : Location) {a : Advance} → a ≡ advance_of r i loc x f → Advanced (goal >>= λ w. ok (record { walk = w; i = i; loc = loc; crossing_loc = x; first_cross = f })) store work a
-  step_ends i loc x f {a} e =
-      subst (λ (a : Advance). Advanced (goal >>= λ w. ok (record { walk = w; i = i; loc = loc; crossing_loc = x; first_cross = f })) store work a) (sym e)
-      (elim r as (λ (r : Step). Stepped goal store work r → Advanced (goal >>= λ w. ok (record { walk = w; i = i; loc = loc; crossing_loc = x; first_cross = f })) store work (advance_of r i loc x f)) [
-        | Walked s ↦ λ R. advance_on (on_ok (λ w. ok (record { walk = w; i = i; loc = loc; crossing_loc = x; first_cross = f })) R.answer) (R.fits s refl)
-        | step.Refused k ↦ λ R. advance_refused (on_refuse (λ w. ok (record { walk = w; i = i; loc = loc; crossing_loc = x; first_cross = f })) R.answer)
-      ] R)
-
--- the store keeps its length, and so the walk its room
-pub roomed : {A : Type 0} {L M : ℕ} → L ≡ M → (f : (ℕ → Bool) → A) → f (no_room (L / 2)) ≡ f (no_room (M / 2))
-roomed e f = ap (λ (L : ℕ). f (no_room (L / 2))) e
+use Rattle.std.specs.Prelude.{None}
+use Rattle.rectclip.specs.Closing.{moves_on, first_of, enter_corners, pass_corner, pass_start, pass_in, pass_out}
 
 -- ---- the definition, by its cases
 module _ (full : ℕ → Bool) (rect : Rect64) (c : def.Pass) where
@@ -196,14 +135,14 @@ module _ (full : ℕ → Bool) (rect : Rect64) (P : List Point64) (s : State) (n
   abbrev known : def.Pass
   known = record { walk = nx.walk; i = nx.i; prev = s.loc; loc = nx.loc; crossing_prev = s.crossing_loc; first_cross = s.first_cross; prev_pt = pt_before P nx.i; pt = pt_at P nx.i }
 
-  pub from_past : length P ≤ nx.i → (ok nx.walk >>= λ w. ok (record { walk = w; i = nx.i; loc = nx.loc; crossing_loc = s.crossing_loc; first_cross = s.first_cross })) ≡ pass_from full rect P s nx
+  pub from_past : length P ≤ nx.i → ok (record { walk = nx.walk; i = nx.i; loc = nx.loc; crossing_loc = s.crossing_loc; first_cross = s.first_cross }) ≡ pass_from full rect P s nx
   unfolding pass_from
   from_past h = rw (le-leb (length P) nx.i h) refl
 
-  pub from_missed : nx.i < length P → get_intersection rect (pt_at P nx.i) (pt_before P nx.i) nx.loc ≡ Missed → remain_outside full rect known ≡ pass_from full rect P s nx
+  pub from_missed : nx.i < length P → get_intersection rect (pt_at P nx.i) (pt_before P nx.i) nx.loc ≡ None → remain_outside full rect known ≡ pass_from full rect P s nx
   unfolding pass_from
   from_missed h e = rw (lt-leb (length P) nx.i h, e) refl
 
-  pub from_found : nx.i < length P → {ip : Point64} {x : Location} → get_intersection rect (pt_at P nx.i) (pt_before P nx.i) nx.loc ≡ Found ip x → cross_boundary full rect known ip x ≡ pass_from full rect P s nx
+  pub from_found : nx.i < length P → {ip : Point64} {x : Location} → get_intersection rect (pt_at P nx.i) (pt_before P nx.i) nx.loc ≡ found_at ip x → cross_boundary full rect known ip x ≡ pass_from full rect P s nx
   unfolding pass_from
   from_found h e = rw (lt-leb (length P) nx.i h, e) refl

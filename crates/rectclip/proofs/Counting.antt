@@ -10,9 +10,10 @@ use lib.ListN.{length, length-append}
 use borrow.Author.Tests.{eq-eqb, ne_eqb}
 use Rattle.plane.specs.Basics.{none, upwards}
 use Rattle.reference.specs.Arena.{Arena, next_of, result_of}
+use Rattle.rectclip.specs.declared.arena.Arena as lent
 use Rattle.rectclip.specs.declared.arena.Sizes.{Sizes}
 use Rattle.rectclip.specs.declared.paths.Counts.{Counts}
-use Rattle.rectclip.specs.Arenas.{arena_at, Holds}
+use Rattle.rectclip.specs.Changes.{arena_of}
 use Rattle.rectclip.specs.Paths.{nodes_from, nodes_of, nodes_read, all_nodes, Counted, CountsOn, CountedAll}
 
 -- ---- going round
@@ -25,38 +26,37 @@ nodes_on : (left : ℕ) (a : Arena) (start curr : ℕ) → (curr ≡ start → �
 unfolding nodes_from
 nodes_on left a start curr q = rw (ne_eqb curr start q) refl
 
-pub nodes_step : (left : ℕ) (a : Arena) (start curr : ℕ) → 0 < left → (curr ≡ start → ⊥) → (next : ℕ) → next ≡ next_of a curr → nodes_from left a start curr ≡ curr ∷ nodes_from (left - 1) a start next
-nodes_step left a start curr z q next e =
-    let one : left ≡ suc (left - 1) = omega arith in
-    ap (λ (k : ℕ). nodes_from k a start curr) one ∙ nodes_on (left - 1) a start curr q ∙ ap (λ (x : ℕ). curr ∷ nodes_from (left - 1) a start x) (sym e)
+pub nodes_step : {left left' : ℕ} (a : Arena) (start curr : ℕ) → left ≡ suc left' → (curr ≡ start → ⊥) → (next : ℕ) → next ≡ next_of a curr → nodes_from left a start curr ≡ curr ∷ nodes_from left' a start next
+nodes_step {left' = left'} a start curr one q next e =
+    ap (λ (k : ℕ). nodes_from k a start curr) one ∙ nodes_on left' a start curr q ∙ ap (λ (x : ℕ). curr ∷ nodes_from left' a start x) (sym e)
 
 pub nodes_out : (left : ℕ) (a : Arena) (start curr : ℕ) → left ≤ 0 → nodes_from left a start curr ≡ []
 unfolding nodes_from
 nodes_out left a start curr h = let z : left ≡ 0 = omega arith in rw z refl
 
 -- ---- the count of one ring
-pub record Counting (s : Sizes) (m : List ℕ) (start curr count left : ℕ) : Type 0 where
-  pub goal : count + length (nodes_from left (arena_at m s) start curr) ≡ length (nodes_of s.nodes (arena_at m s) start)
-  pub most : count + left ≤ s.nodes + 1
-  pub here : curr < s.nodes
+pub record Counting (m : lent.Arena) (start curr count left : ℕ) : Type 0 where
+  pub goal : count + length (nodes_from left (arena_of m) start curr) ≡ length (nodes_of m.sizes.nodes (arena_of m) start)
+  pub most : count + left ≤ m.sizes.nodes + 1
+  pub here : curr < m.sizes.nodes
 
-pub counting_start : {s : Sizes} {m : List ℕ} (start curr : ℕ) → Holds m s → start < s.nodes → curr ≡ next_of (arena_at m s) start → Counting s m start curr 1 s.nodes
+pub counting_start : (m : lent.Arena) (start curr : ℕ) → curr ≡ next_of (arena_of m) start → curr < m.sizes.nodes → {left : ℕ} → left ≡ m.sizes.nodes → Counting m start curr 1 left
 unfolding nodes_of
-counting_start start curr h l e = record { goal = rw e (omega arith); most = omega arith; here = rw e (h.valid.next_in start l) }
+counting_start m start curr e h z = rw (z, e) (record { goal = omega arith; most = omega arith; here = rw e at h })
 
-module _ {s : Sizes} {m : List ℕ} {start curr count left : ℕ} (I : Counting s m start curr count left) where
-  pub counting_again : Holds m s → 0 < left → (curr ≡ start → ⊥) → (next : ℕ) → next ≡ next_of (arena_at m s) curr → Counting s m start next (count + 1) (left - 1)
-  counting_again h z q next e = record {
-    goal = omega (arith, ap length (nodes_step left (arena_at m s) start curr z q next e), I.goal);
+module _ {m : lent.Arena} {start curr count left : ℕ} (I : Counting m start curr count left) where
+  pub counting_again : (curr ≡ start → ⊥) → (next : ℕ) → next ≡ next_of (arena_of m) curr → next < m.sizes.nodes → {left' : ℕ} → left ≡ suc left' → Counting m start next (count + 1) left'
+  counting_again q next e h z = record {
+    goal = omega (arith, ap length (nodes_step (arena_of m) start curr z q next e), I.goal);
     most = omega (arith, I.most);
-    here = rw e (h.valid.next_in curr I.here);
+    here = h;
   }
 
-  pub counting_stop : curr ≡ start → Counted s.nodes count (nodes_of s.nodes (arena_at m s) start)
-  counting_stop e = record { is = omega (arith, ap length (nodes_stop left (arena_at m s) start curr e), I.goal); most = omega (arith, I.most) }
+  pub counting_stop : curr ≡ start → Counted m.sizes.nodes count (nodes_of m.sizes.nodes (arena_of m) start)
+  counting_stop e = record { is = omega (arith, ap length (nodes_stop left (arena_of m) start curr e), I.goal); most = omega (arith, I.most) }
 
-  pub counting_out : left ≤ 0 → Counted s.nodes count (nodes_of s.nodes (arena_at m s) start)
-  counting_out h = record { is = omega (arith, ap length (nodes_out left (arena_at m s) start curr h), I.goal); most = omega (arith, I.most) }
+  pub counting_out : left ≤ 0 → Counted m.sizes.nodes count (nodes_of m.sizes.nodes (arena_of m) start)
+  counting_out h = record { is = omega (arith, ap length (nodes_out left (arena_of m) start curr h), I.goal); most = omega (arith, I.most) }
 
 -- ---- the count of all
 one_more : (i n : ℕ) → (i + 1) * n ≡ i * n + n
@@ -110,32 +110,29 @@ all_append : (ps qs : List (List ℕ)) → length (all_nodes (ps ++ qs)) ≡ len
 all_append [] qs = omega arith
 all_append (p ∷ ps) qs = omega (arith, length-append p (all_nodes (ps ++ qs)), length-append p (all_nodes ps), all_append ps qs)
 
-pub record CountingAll (s : Sizes) (m : List ℕ) (c : Counts) (i : ℕ) : Type 0 where
-  pub paths : c.paths + length (nodes_read s.nodes (arena_at m s) (upwards i (s.results - i))) ≡ length (nodes_read s.nodes (arena_at m s) (upwards 0 s.results))
-  pub points : c.points + length (all_nodes (nodes_read s.nodes (arena_at m s) (upwards i (s.results - i)))) ≡ length (all_nodes (nodes_read s.nodes (arena_at m s) (upwards 0 s.results)))
+pub record CountingAll (m : lent.Arena) (c : Counts) (i : ℕ) : Type 0 where
+  pub paths : c.paths + length (nodes_read m.sizes.nodes (arena_of m) (upwards i (m.sizes.results - i))) ≡ length (nodes_read m.sizes.nodes (arena_of m) (upwards 0 m.sizes.results))
+  pub points : c.points + length (all_nodes (nodes_read m.sizes.nodes (arena_of m) (upwards i (m.sizes.results - i)))) ≡ length (all_nodes (nodes_read m.sizes.nodes (arena_of m) (upwards 0 m.sizes.results)))
   pub most_paths : c.paths ≤ i
-  pub most_points : c.points ≤ i * (s.nodes + 1)
+  pub most_points : c.points ≤ i * (m.sizes.nodes + 1)
 
-pub all_start : (s : Sizes) (m : List ℕ) → CountingAll s m (record { paths = 0; points = 0 }) 0
-all_start s m = let z : s.results - 0 ≡ s.results = omega arith in record { paths = rw z (omega arith); points = rw z (omega arith); most_paths = omega arith; most_points = omega arith }
-
-module _ {s : Sizes} {m : List ℕ} {c : Counts} {i : ℕ} (I : CountingAll s m c i) where
-  pub all_again : i < s.results → (r : Counts) → CountsOn (arena_at m s) s i c r → CountingAll s m r (i + 1)
+module _ {m : lent.Arena} {c : Counts} {i : ℕ} (I : CountingAll m c i) where
+  pub all_again : i < m.sizes.results → (r : Counts) → CountsOn (arena_of m) m.sizes i c r → CountingAll m r (i + 1)
   all_again z r k =
-      let a = arena_at m s in
-      let rest = upwards (suc i) (s.results - suc i) in
-      let one : s.results - i ≡ suc (s.results - suc i) = omega arith in
-      let cut : nodes_read s.nodes a (upwards i (s.results - i)) ≡ nodes_read s.nodes a (i ∷ []) ++ nodes_read s.nodes a rest =
-      ap (λ (l : ℕ). nodes_read s.nodes a (upwards i l)) one ∙ read_cons s.nodes a i rest in
+      let a = arena_of m in
+      let rest = upwards (suc i) (m.sizes.results - suc i) in
+      let one : m.sizes.results - i ≡ suc (m.sizes.results - suc i) = omega arith in
+      let cut : nodes_read m.sizes.nodes a (upwards i (m.sizes.results - i)) ≡ nodes_read m.sizes.nodes a (i ∷ []) ++ nodes_read m.sizes.nodes a rest =
+      ap (λ (l : ℕ). nodes_read m.sizes.nodes a (upwards i l)) one ∙ read_cons m.sizes.nodes a i rest in
       record {
-        paths = rw (add-one i) (omega (arith, ap length cut, length-append (nodes_read s.nodes a (i ∷ [])) (nodes_read s.nodes a rest), I.paths, k.paths));
-        points = rw (add-one i) (omega (arith, ap (λ (l : List (List ℕ)). length (all_nodes l)) cut, all_append (nodes_read s.nodes a (i ∷ [])) (nodes_read s.nodes a rest), I.points, k.points));
+        paths = rw (add-one i) (omega (arith, ap length cut, length-append (nodes_read m.sizes.nodes a (i ∷ [])) (nodes_read m.sizes.nodes a rest), I.paths, k.paths));
+        points = rw (add-one i) (omega (arith, ap (λ (l : List (List ℕ)). length (all_nodes l)) cut, all_append (nodes_read m.sizes.nodes a (i ∷ [])) (nodes_read m.sizes.nodes a rest), I.points, k.points));
         most_paths = k.most_paths;
         most_points = k.most_points;
       }
 
-  pub all_counted : s.results ≤ i → CountedAll c (nodes_read s.nodes (arena_at m s) (upwards 0 s.results))
+  pub all_counted : m.sizes.results ≤ i → CountedAll c (nodes_read m.sizes.nodes (arena_of m) (upwards 0 m.sizes.results))
   unfolding nodes_read
   all_counted h =
-      let z : s.results - i ≡ 0 = omega arith in
+      let z : m.sizes.results - i ≡ 0 = omega arith in
       record { paths = omega (arith, rw z at I.paths); points = omega (arith, rw z at I.points) }

@@ -1,92 +1,79 @@
--- A crossing of the line clipper on the lent lists: passing right through, entering and exiting, and a pass behind `get_next_location`.
--- Assumes nothing.
-use mathlib.Core.Path.{◌≡◌, sym, ◌∙◌, subst}
+-- A crossing of the line clipper: passing right through, entering and exiting, and a pass behind `get_next_location`. Assumes nothing.
+use mathlib.Core.Path.{◌≡◌, refl, sym, ◌∙◌}
 use mathlib.Core.Bool.{Bool, true, false}
 use mathlib.Core.List.{List}
 use Prim.Native.Nat.{ℕ, ◌+◌, ◌-◌, ◌/◌, ◌<◌, ◌≤◌}
-use native.Mathlib.Omega.{arith}
-use lib.IntN.{ℤ}
 use lib.ListN.{length}
 use Rattle.plane.specs.declared.point.Point64.{Point64}
 use Rattle.plane.specs.declared.rect.Rect64.{Rect64}
 use Rattle.plane.specs.declared.location.Location.{Location}
-use Rattle.plane.specs.declared.crossing.Search.{Search}
-use Rattle.plane.specs.declared.crossing.Search.TheVariants.{Missed, Found}
 use Rattle.plane.specs.declared.crossing.SidePoint.{SidePoint}
 use Rattle.plane.specs.Basics.{Try, ok, ◌>>=◌}
-use Rattle.plane.specs.Intersection.{get_intersection}
+use Rattle.plane.specs.Intersection.{found_at, get_intersection}
 use Rattle.plane.specs.Locations.{is_inside}
-use Rattle.plane.specs.Points.{pt_at, points_of}
-use Rattle.reference.specs.Walk.{Walk, Next, no_room, add, second_search}
+use Rattle.plane.specs.Points.{pt_at}
+use Rattle.reference.specs.Walk.{Walk, Next, add, second_search}
 use Rattle.reference.specs.Lines.{line_through, line_cross, line_from}
 use Rattle.entry.specs.declared.answer.Refusal.{Refusal}
-use Rattle.rectclip.specs.declared.walk.WalkState.{WalkState}
-use Rattle.rectclip.specs.declared.walk.Step.{Step}
-use Rattle.rectclip.specs.declared.walk.Step.TheVariants.{Walked, Refused}
-use Rattle.rectclip.specs.declared.next.NextState.{NextState}
-use Rattle.rectclip.specs.declared.next.Move.{Move}
-use Rattle.rectclip.specs.declared.next.Move.TheVariants.{To}
-use Rattle.rectclip.specs.Walking.{walk_of, Fits, Stepped}
-use Rattle.rectclip.specs.Moving.{next_of, Moved}
-use Rattle.rectclip.specs.Crossing.{move_of}
+use Rattle.std.specs.Prelude.{Result, Ok, Err, Option, None}
+use Rattle.rectclip.specs.declared.walk.Walker.{Walker}
+use Rattle.rectclip.specs.declared.next.Place.{Place}
+use Rattle.rectclip.specs.Moving.{placed}
+use Rattle.rectclip.specs.Steps.{walk, full, points, next_of, Steps, Moves, Lands}
 use Rattle.rectclip.proofs.Coordinates.{points_length}
-use Rattle.rectclip.proofs.Moving.{move_to}
-use Rattle.rectclip.proofs.Passing.{step_moves, step_then, step_stops, through_second, cross_enters, cross_passes, cross_exits, from_past, from_missed, from_found}
+use Rattle.rectclip.proofs.Steps.{on, stays, named, step_then, step_lost, ends_as, lost_as, read_as}
+use Rattle.rectclip.proofs.Passing.{through_second, cross_enters, cross_passes, cross_exits, from_past, from_missed, from_found}
 
--- a goal by another name
-abbrev by : {g h : Try Next} {from : ℕ} {store : List ℤ} {work : List ℕ} {m : Move} → g ≡ h → Moved g from store work m → Moved h from store work m
-by {from = from} {store = store} {work = work} {m = m} e M = subst (λ (g : Try Next). Moved g from store work m) e M
+-- the last point of a crossing, with the place beside the walk
+abbrev out : Place → Point64 → (ℕ → Bool) → Rect64 → List Point64 → Walk → Try Next
+out at ip full rect path w = add full w ip false >>= λ v. ok (placed v at)
 
--- the location and the point put beside the walk
-abbrev beside : NextState → Walk → Try Next
-beside nx w = ok (record { walk = w; loc = nx.loc; i = nx.i })
+module _ (x : Walker) (at : Place) (prev : Location) (prev_pt pt ip : Point64) where
+  module _ {p : SidePoint} (e : p ≡ second_search x.rect prev_pt pt prev ip) {y : Walker} {r : Result Unit Refusal} (R : Steps (add (full x) (walk x) p.point true) x y r) where
+    pub through_lost : {why : Refusal} → r ≡ Err why → Lands at (line_through (full x) x.rect (next_of x at) prev prev_pt pt ip) x y (Err why)
+    through_lost q = named (step_lost R q (on (out at ip) x)) (through_second (full x) x.rect (next_of x at) prev prev_pt pt ip e)
 
-module _ (rect : Rect64) (store : List ℤ) (work : List ℕ) (nx : NextState) (prev : Location) (prev_pt pt ip : Point64) where
-  abbrev full : ℕ → Bool
-  full = no_room (length store / 2)
+    pub through_on : {u : Unit} → r ≡ Ok u → {z : Walker} {s : Result Unit Refusal} → Steps (add (full y) (walk y) ip false) y z s → Lands at (line_through (full x) x.rect (next_of x at) prev prev_pt pt ip) x z s
+    through_on q S = named (step_then R q (out at ip) (read_as S (λ v. placed v at) (λ u. refl))) (through_second (full x) x.rect (next_of x at) prev prev_pt pt ip e)
 
-  abbrev here : Next
-  here = next_of store work nx
+  module _ {y : Walker} {r : Result Unit Refusal} where
+    pub entered : is_inside at.loc ≡ true → Steps (add (full x) (walk x) ip true) x y r → Lands at (line_cross (full x) x.rect (next_of x at) prev prev_pt pt ip) x y r
+    entered h R = named (read_as R (λ v. placed v at) (λ u. refl)) (cross_enters (full x) x.rect (next_of x at) prev prev_pt pt ip h)
 
-  module _ {p : SidePoint} (e : p ≡ second_search rect prev_pt pt prev ip) {store1 : List ℤ} {work1 : List ℕ} {r : Step} (R : Stepped (add full (walk_of store work nx.walk) p.point true) store1 work1 r) where
-    pub through_stop : (k : Refusal) → r ≡ Refused k → {m : Move} → m ≡ move_of r nx.loc nx.i → Moved (line_through full rect here prev prev_pt pt ip) nx.i store1 work1 m
-    through_stop k q em = rw em (by (through_second full rect here prev prev_pt pt ip e) (step_stops R q (λ w. add full w ip false >>= beside nx) nx.loc nx.i))
+    pub passed : is_inside at.loc ≡ false → is_inside prev ≡ false → Lands at (line_through (full x) x.rect (next_of x at) prev prev_pt pt ip) x y r
+        → Lands at (line_cross (full x) x.rect (next_of x at) prev prev_pt pt ip) x y r
+    passed h k R = named R (cross_passes (full x) x.rect (next_of x at) prev prev_pt pt ip h k)
 
-    pub through_go : (w : WalkState) → r ≡ Walked w → length store1 ≡ length store → {store2 : List ℤ} {work2 : List ℕ} {r2 : Step}
-        → Stepped (add (no_room (length store1 / 2)) (walk_of store1 work1 w) ip false) store2 work2 r2 → {m : Move} → m ≡ move_of r2 nx.loc nx.i
-        → Moved (line_through full rect here prev prev_pt pt ip) nx.i store2 work2 m
-    through_go w q a R2 em = rw em (by (through_second full rect here prev prev_pt pt ip e) (step_then R q (λ w. add full w ip false >>= beside nx) (step_moves (rw a at R2) nx.loc nx.i)))
+    pub exited : is_inside at.loc ≡ false → is_inside prev ≡ true → Steps (add (full x) (walk x) ip false) x y r → Lands at (line_cross (full x) x.rect (next_of x at) prev prev_pt pt ip) x y r
+    exited h k R = named (read_as R (λ v. placed v at) (λ u. refl)) (cross_exits (full x) x.rect (next_of x at) prev prev_pt pt ip h k)
 
-  pub entered : is_inside nx.loc ≡ true → {store1 : List ℤ} {work1 : List ℕ} {r : Step} → Stepped (add full (walk_of store work nx.walk) ip true) store1 work1 r → {m : Move} → m ≡ move_of r nx.loc nx.i
-      → Moved (line_cross full rect here prev prev_pt pt ip) nx.i store1 work1 m
-  entered h R em = rw em (by (cross_enters full rect here prev prev_pt pt ip h) (step_moves R nx.loc nx.i))
+module _ (x : Walker) (prev : Location) (at : Place) where
+  abbrev rest : Try Next
+  rest = line_from (full x) x.rect (points x) prev (next_of x at)
 
-  pub passed : is_inside nx.loc ≡ false → is_inside prev ≡ false → {store1 : List ℤ} {work1 : List ℕ} {m : Move} → Moved (line_through full rect here prev prev_pt pt ip) nx.i store1 work1 m
-      → Moved (line_cross full rect here prev prev_pt pt ip) nx.i store1 work1 m
-  passed h k M = by (cross_passes full rect here prev prev_pt pt ip h k) M
+  pub from_over : length x.path.now / 2 ≤ at.i → Moves rest x x (Ok at)
+  from_over h = stays (from_past (full x) x.rect (points x) prev (next_of x at) (rw (points_length x.path.now) h))
 
-  pub exited : is_inside nx.loc ≡ false → is_inside prev ≡ true → {store1 : List ℤ} {work1 : List ℕ} {r : Step} → Stepped (add full (walk_of store work nx.walk) ip false) store1 work1 r → {m : Move} → m ≡ move_of r nx.loc nx.i
-      → Moved (line_cross full rect here prev prev_pt pt ip) nx.i store1 work1 m
-  exited h k R em = rw em (by (cross_exits full rect here prev prev_pt pt ip h k) (step_moves R nx.loc nx.i))
+  module _ (h : at.i < length x.path.now / 2) {pt prev_pt : Point64} (ep : pt ≡ pt_at (points x) at.i) (eq : prev_pt ≡ pt_at (points x) (at.i - 1))
+      {f : Option SidePoint} (ef : f ≡ get_intersection x.rect pt prev_pt at.loc) where
+    within : at.i < length (points x)
+    within = rw (points_length x.path.now) h
 
-module _ (rect : Rect64) (path store : List ℤ) (work : List ℕ) (prev : Location) (nx : NextState) (F : Fits store work nx.walk) where
-  abbrev goal : Try Next
-  goal = line_from (no_room (length store / 2)) rect (points_of path) prev (next_of store work nx)
+    found_is : f ≡ get_intersection x.rect (pt_at (points x) at.i) (pt_at (points x) (at.i - 1)) at.loc
+    found_is = ef ∙ (λ j. get_intersection x.rect (ep j) (eq j) at.loc)
 
-  pub from_over : length path / 2 ≤ nx.i → Moved goal nx.i store work (To nx)
-  from_over h = move_to (from_past _ rect (points_of path) prev (next_of store work nx) (rw (points_length path) h)) F (omega arith)
+    pub from_next : f ≡ None → Moves rest x x (Ok (record { loc = at.loc; i = at.i + 1 }))
+    from_next e = stays (from_missed (full x) x.rect (points x) prev (next_of x at) within (sym found_is ∙ e))
 
-  module _ (h : nx.i < length path / 2) {pt prev_pt : Point64} (ep : pt ≡ pt_at (points_of path) nx.i) (eq : prev_pt ≡ pt_at (points_of path) (nx.i - 1)) {f : Search} (ef : f ≡ get_intersection rect pt prev_pt nx.loc) where
-    found_is : f ≡ get_intersection rect (pt_at (points_of path) nx.i) (pt_at (points_of path) (nx.i - 1)) nx.loc
-    found_is = ef ∙ (λ j. get_intersection rect (ep j) (eq j) nx.loc)
+    module _ {ip : Point64} {l : Location} (e : f ≡ found_at ip l) {y : Walker} {r : Result Unit Refusal} (R : Lands at (line_cross (full x) x.rect (next_of x at) prev prev_pt pt ip) x y r) where
+      crossed : Lands at rest x y r
+      crossed =
+          named R
+          ((λ j. line_cross (full x) x.rect (next_of x at) prev (eq j) (ep j) ip)
+          ∙ from_found (full x) x.rect (points x) prev (next_of x at) within (sym found_is ∙ e))
 
-    pub from_next : f ≡ Missed → Moved goal nx.i store work (To (record { walk = nx.walk; loc = nx.loc; i = nx.i + 1 }))
-    from_next e = move_to (from_missed _ rect (points_of path) prev (next_of store work nx) (rw (points_length path) h) (sym found_is ∙ e)) F (omega arith)
+      pub from_crossed : {u : Unit} → r ≡ Ok u → Moves rest x y (Ok at)
+      from_crossed q = ends_as crossed q refl
 
-    pub from_crossing : {ip : Point64} {l : Location} → f ≡ Found ip l → {store1 : List ℤ} {work1 : List ℕ} {m : Move}
-        → Moved (line_cross (no_room (length store / 2)) rect (next_of store work nx) prev prev_pt pt ip) nx.i store1 work1 m → Moved goal nx.i store1 work1 m
-    from_crossing {ip} e M =
-        by
-        ((λ j. line_cross (no_room (length store / 2)) rect (next_of store work nx) prev (eq j) (ep j) ip)
-        ∙ from_found _ rect (points_of path) prev (next_of store work nx) (rw (points_length path) h) (sym found_is ∙ e))
-        M
+      pub from_lost : {why : Refusal} → r ≡ Err why → Moves rest x y (Err why)
+      from_lost q = lost_as crossed q

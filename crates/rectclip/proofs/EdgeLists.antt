@@ -3,9 +3,8 @@ use Rattle.std.specs.Prelude.{if◌then◌else◌}
 use mathlib.Core.Path.{◌≡◌, refl, sym, ◌∙◌, ap}
 use mathlib.Core.Bool.{Bool, true, false}
 use mathlib.Core.List.{List}
-use Prim.Native.Nat.{ℕ, suc, ◌+◌, ◌*◌, ◌-◌, ◌<◌, ◌≤◌}
+use Prim.Native.Nat.{ℕ, suc, ◌+◌, ◌*◌, ◌-◌, ◌<◌}
 use native.Mathlib.Omega.{arith}
-use lib.IntN.{ℤ}
 use borrow.Author.Tests.{eq-eqb, ne_eqb}
 use Rattle.plane.specs.declared.point.Point64.{Point64}
 use Rattle.plane.specs.declared.rect.Rect64.{Rect64}
@@ -15,37 +14,36 @@ use Rattle.plane.specs.Locations.{side}
 use Rattle.plane.specs.Signs.{is_heading_clockwise}
 use Rattle.plane.specs.Rectangle.{get_edges_for_pt, has_edge}
 use Rattle.reference.specs.Arena.{Arena, pt_of, next_of, prev_of, edge_of, edge_list, set_edge, set_edge_list, add_to_edge, assign_side, assign_edges}
-use Rattle.rectclip.specs.declared.arena.Sizes.{Sizes}
-use Rattle.rectclip.specs.Arenas.{arena_at, Leaves, Grows, Enters, longer_list}
-use Rattle.rectclip.specs.Stored.{points_in}
+use Rattle.rectclip.specs.declared.arena.Arena as lent
+use Rattle.rectclip.specs.Arenas.{longer_list}
+use Rattle.rectclip.specs.Changes.{arena_of, pts_of, Leaves, Grows, Enters}
 use Rattle.rectclip.specs.Edges.{Entering, Assigning, assign_node}
-use Rattle.rectclip.proofs.Spare.{edge_length, list_length, spare_room, spare_entered, spare_slots}
-use Rattle.rectclip.proofs.Becoming.{becomes_left, becomes_entry, enters_same, enters_renamed, then_becomes, then_enters}
+use Rattle.rectclip.proofs.Spare.{spare_room, spare_entered, spare_slots}
+use Rattle.rectclip.proofs.Changes.{nodes_many, list_long, becomes_left, becomes_entry, enters_same, enters_renamed, points_stay, then_becomes, then_enters}
 
 -- ---- add_to_edge
-module _ {m : List ℕ} {s : Sizes} {e op : ℕ} (x : Entering m s e op) (v : ℕ) (h : v ≡ edge_of (arena_at m s) op) where
-  pub entered_before : (v ≡ none → ⊥) → Enters m m s s (add_to_edge (arena_at m s) e op)
+module _ {m : lent.Arena} {e op : ℕ} (x : Entering m e op) where
+  pub entered_before : (v : ℕ) → v ≡ edge_of (arena_of m) op → v < 8 → Enters m m (add_to_edge (arena_of m) e op)
   unfolding add_to_edge
-  entered_before q = rw (ne_eqb (edge_of (arena_at m s) op) none (λ w. q (h ∙ w))) (enters_same x.holds)
+  entered_before v h l = rw (ne_eqb (edge_of (arena_of m) op) none (λ w. omega (arith, h, w))) enters_same
 
-  pub entered : v ≡ none → {m₁ m₂ : List ℕ} {r : Sizes} → Leaves m m₁ s (set_edge (arena_at m s) op e)
-      → Grows m₁ m₂ r (longer_list s e) (set_edge_list (arena_at m₁ s) e (push (edge_list (arena_at m₁ s) e) op)) → Enters m m₂ s r (add_to_edge (arena_at m s) e op)
+  pub entered : none ≡ edge_of (arena_of m) op → {m₁ m₂ : lent.Arena} → Leaves m m₁ (set_edge (arena_of m) op e)
+      → Grows m₁ m₂ (longer_list m₁.sizes e) (set_edge_list (arena_of m₁) e (push (edge_list (arena_of m₁) e) op)) → Enters m m₂ (add_to_edge (arena_of m) e op)
   unfolding add_to_edge set_edge
-  entered q k g =
-      let f : edge_of (arena_at m s) op ≡ none = sym h ∙ q in
-      rw (eq-eqb (edge_of (arena_at m s) op) none f)
+  entered h {m₁} k g =
+      let f : edge_of (arena_of m) op ≡ none = sym h in
+      rw (eq-eqb (edge_of (arena_of m) op) none f)
       (record {
-        becomes = then_becomes (λ _ b. set_edge_list b e (push (edge_list b e) op)) (becomes_left k) (becomes_entry e (omega (arith, x.holds.eight, x.list_in)) g);
-        spare = λ N n S. spare_entered S e op x.list_in (omega (arith, edge_length m s, x.op_in)) f;
+        becomes = then_becomes (λ _ _ b. set_edge_list b e (push (edge_list b e) op)) (becomes_left k) (becomes_entry e (omega (arith, m₁.holds.eight, x.list_in)) g);
+        spare = λ N n S. spare_entered S e op x.list_in (omega (arith, nodes_many m, x.op_in)) f;
       })
 
 -- ---- assign_side
-pub may_enter : {store : List ℤ} {m : List ℕ} {s : Sizes} {op : ℕ} → Assigning store m s op → (e : ℕ) → e < 8 → Entering m s e op
-may_enter {m = m} {s = s} {op = op} x e h = record {
-  holds = x.holds;
+pub may_enter : {m : lent.Arena} {op : ℕ} → Assigning m op → (e : ℕ) → e < 8 → Entering m e op
+may_enter {m = m} {op = op} x e h = record {
   list_in = h;
   op_in = x.op_in;
-  room = λ q. omega (arith, spare_room x.spare e op h (omega (arith, edge_length m s, x.op_in)) q, list_length m s x.holds.eight e h);
+  room = λ q. omega (arith, spare_room x.spare e op h (omega (arith, nodes_many m, x.op_in)) q, list_long m e h);
 }
 
 module _ (pts : List Point64) (a : Arena) (op set1 set2 j : ℕ) where
@@ -65,38 +63,32 @@ module _ (pts : List Point64) (a : Arena) (op set1 set2 j : ℕ) where
       rw (h, g, w) refl
 
 -- ---- assign_node
-pub assigning_on : {store : List ℤ} {m m₁ : List ℕ} {s r : Sizes} {op : ℕ} {b : Arena} → Assigning store m s op → Enters m m₁ s r b → Assigning store m₁ r op
-assigning_on {s = s} x k = record {
-  drawn = rw k.becomes.nodes x.drawn;
-  holds = k.becomes.holds;
-  spare = spare_slots k.becomes.slots (rw k.becomes.is (k.spare s.slots 0 x.spare));
+pub assigning_on : {m m₁ : lent.Arena} {op : ℕ} {b : Arena} → Assigning m op → Enters m m₁ b → Assigning m₁ op
+assigning_on {m} x k = record {
+  spare = spare_slots k.becomes.slots (rw k.becomes.is (k.spare m.sizes.slots 0 x.spare));
   op_in = rw k.becomes.nodes x.op_in;
 }
 
-module _ {store : List ℤ} {m : List ℕ} {s : Sizes} {op : ℕ} (x : Assigning store m s op) (set1 set2 : ℕ) where
-  pub node_off : set2 ≡ 0 → Enters m m s s (assign_node (points_in store s.nodes) (arena_at m s) op set1 set2)
+module _ {m : lent.Arena} {op : ℕ} (x : Assigning m op) (set1 set2 : ℕ) where
+  pub node_off : set2 ≡ 0 → Enters m m (assign_node (pts_of m) (arena_of m) op set1 set2)
   unfolding assign_node
-  node_off e = rw (eq-eqb set2 0 e) (enters_same x.holds)
+  node_off e = rw (eq-eqb set2 0 e) enters_same
 
-  module _ (q : set2 ≡ 0 → ⊥) (v : ℕ) (h : v ≡ edge_of (arena_at m s) op) where
-    pub node_before : (v ≡ none → ⊥) → Enters m m s s (assign_node (points_in store s.nodes) (arena_at m s) op set1 set2)
+  module _ (q : set2 ≡ 0 → ⊥) where
+    pub node_before : (v : ℕ) → v ≡ edge_of (arena_of m) op → v < 8 → Enters m m (assign_node (pts_of m) (arena_of m) op set1 set2)
     unfolding assign_node
-    node_before u = rw (ne_eqb set2 0 q, ne_eqb (edge_of (arena_at m s) op) none (λ w. u (h ∙ w))) (enters_same x.holds)
+    node_before v h l = rw (ne_eqb set2 0 q, ne_eqb (edge_of (arena_of m) op) none (λ w. omega (arith, h, w))) enters_same
 
-    -- the four sides in their order
-    at_side : ℕ → ℕ → Arena → Arena
-    at_side j n a = assign_side (points_in store n) a op set1 set2 j
-
-    pub node_on : v ≡ none → {m₁ m₂ m₃ m₄ : List ℕ} {r₁ r₂ r₃ r₄ : Sizes}
-        → Enters m m₁ s r₁ (assign_side (points_in store s.nodes) (arena_at m s) op set1 set2 0)
-        → Enters m₁ m₂ r₁ r₂ (assign_side (points_in store r₁.nodes) (arena_at m₁ r₁) op set1 set2 1)
-        → Enters m₂ m₃ r₂ r₃ (assign_side (points_in store r₂.nodes) (arena_at m₂ r₂) op set1 set2 2)
-        → Enters m₃ m₄ r₃ r₄ (assign_side (points_in store r₃.nodes) (arena_at m₃ r₃) op set1 set2 3)
-        → Enters m m₄ s r₄ (assign_node (points_in store s.nodes) (arena_at m s) op set1 set2)
-    unfolding assign_node at_side
-    node_on u k₀ k₁ k₂ k₃ =
-        rw (ne_eqb set2 0 q, eq-eqb (edge_of (arena_at m s) op) none (sym h ∙ u))
-        (then_enters (at_side 3) (then_enters (at_side 2) (then_enters (at_side 1) k₀ k₁) k₂) k₃)
+    pub node_on : none ≡ edge_of (arena_of m) op → {m₁ m₂ m₃ m₄ : lent.Arena}
+        → Enters m m₁ (assign_side (pts_of m) (arena_of m) op set1 set2 0)
+        → Enters m₁ m₂ (assign_side (pts_of m₁) (arena_of m₁) op set1 set2 1)
+        → Enters m₂ m₃ (assign_side (pts_of m₂) (arena_of m₂) op set1 set2 2)
+        → Enters m₃ m₄ (assign_side (pts_of m₃) (arena_of m₃) op set1 set2 3)
+        → Enters m m₄ (assign_node (pts_of m) (arena_of m) op set1 set2)
+    unfolding assign_node
+    node_on h k₀ k₁ k₂ k₃ =
+        rw (ne_eqb set2 0 q, eq-eqb (edge_of (arena_of m) op) none (sym h))
+        (then_enters (λ pts _ a. assign_side pts a op set1 set2 3) (then_enters (λ pts _ a. assign_side pts a op set1 set2 2) (then_enters (λ pts _ a. assign_side pts a op set1 set2 1) k₀ k₁) k₂) k₃)
 
 -- ---- assign_edges
 module _ (pts : List Point64) (rect : Rect64) where
@@ -113,50 +105,42 @@ module _ (pts : List Point64) (rect : Rect64) where
   assign_goes_on left a op x set q = rw (ne_eqb (next_of (passed a x set) x) op q) refl
 
 -- at the head of the loop, at node x
-pub record Assigned (store : List ℤ) (rect : Rect64) (s : Sizes) (op first : ℕ) (m₀ m : List ℕ) (at : Sizes) (x set left : ℕ) : Type 0 where
-  pub goal : assign_edges (points_in store s.nodes) left rect (arena_at m at) op x set ≡ assign_edges (points_in store s.nodes) s.nodes rect (arena_at m₀ s) op op first
-  pub so_far : Enters m₀ m s at (arena_at m at)
-  pub here : x < s.nodes
+pub record Assigned (rect : Rect64) (op first : ℕ) (m₀ m : lent.Arena) (x set left : ℕ) : Type 0 where
+  pub goal : assign_edges (pts_of m₀) left rect (arena_of m) op x set ≡ assign_edges (pts_of m₀) m₀.sizes.nodes rect (arena_of m₀) op op first
+  pub so_far : Enters m₀ m (arena_of m)
+  pub here : x < m.sizes.nodes
 
-pub assigned_start : {store : List ℤ} {m : List ℕ} {s : Sizes} {op : ℕ} (rect : Rect64) (first : ℕ) → Assigning store m s op → Assigned store rect s op first m m s op first s.nodes
-assigned_start rect first x = record { goal = refl; so_far = enters_same x.holds; here = x.op_in }
+module _ {rect : Rect64} {op first : ℕ} {m₀ m : lent.Arena} {x set left : ℕ} (I : Assigned rect op first m₀ m x set left) where
+  pub assigned_may : {o : ℕ} → Assigning m₀ o → Assigning m x
+  assigned_may {o} y = record { spare = spare_slots I.so_far.becomes.slots (I.so_far.spare m₀.sizes.slots 0 y.spare); op_in = I.here }
 
-module _ {store : List ℤ} {rect : Rect64} {s : Sizes} {op first : ℕ} {m₀ m : List ℕ} {at : Sizes} {x set left : ℕ} (I : Assigned store rect s op first m₀ m at x set left) where
-  pub assigned_may : {o : ℕ} → Assigning store m₀ s o → Assigning store m at x
-  assigned_may {o} y = record {
-    drawn = rw I.so_far.becomes.nodes y.drawn;
-    holds = I.so_far.becomes.holds;
-    spare = spare_slots I.so_far.becomes.slots (I.so_far.spare s.slots 0 y.spare);
-    op_in = rw I.so_far.becomes.nodes I.here;
-  }
+  module _ (z : 0 < left) (p : Point64) (ep : p ≡ pt_of (pts_of m) x) (set2 : ℕ) (e : set2 ≡ get_edges_for_pt p rect) {m' : lent.Arena}
+      (k : Enters m m' (assign_node (pts_of m) (arena_of m) x set set2)) where
+    sides : set2 ≡ get_edges_for_pt (pt_of (pts_of m₀) x) rect
+    sides = e ∙ ap (λ (q : Point64). get_edges_for_pt q rect) (ep ∙ ap (λ (t : List Point64). pt_of t x) (points_stay I.so_far.becomes))
 
-  module _ (z : 0 < left) (p : Point64) (ep : p ≡ pt_of (points_in store at.nodes) x) (set2 : ℕ) (e : set2 ≡ get_edges_for_pt p rect) {m' : List ℕ} {at' : Sizes}
-      (k : Enters m m' at at' (assign_node (points_in store at.nodes) (arena_at m at) x set set2)) where
-    sides : set2 ≡ get_edges_for_pt (pt_of (points_in store s.nodes) x) rect
-    sides = e ∙ ap (λ (q : Point64). get_edges_for_pt q rect) (ep ∙ ap (λ (n : ℕ). pt_of (points_in store n) x) I.so_far.becomes.nodes)
+    is_passed : arena_of m' ≡ passed (pts_of m₀) rect (arena_of m) x set
+    is_passed = k.becomes.is ∙ (λ i. assign_node (points_stay I.so_far.becomes i) (arena_of m) x set (sides i))
 
-    is_passed : arena_at m' at' ≡ passed (points_in store s.nodes) rect (arena_at m at) x set
-    is_passed = k.becomes.is ∙ (λ i. assign_node (points_in store (I.so_far.becomes.nodes i)) (arena_at m at) x set (sides i))
+    on : Enters m₀ m' (arena_of m')
+    on = enters_renamed (then_enters (λ t _ a. assign_node t a x set set2) I.so_far k) (sym (k.becomes.is ∙ ap (λ (t : List Point64). assign_node t (arena_of m) x set set2) (points_stay I.so_far.becomes)))
 
-    on : Enters m₀ m' s at' (arena_at m' at')
-    on = enters_renamed (then_enters (λ n a. assign_node (points_in store n) a x set set2) I.so_far k) (sym (k.becomes.is ∙ ap (λ (n : ℕ). assign_node (points_in store n) (arena_at m at) x set set2) I.so_far.becomes.nodes))
-
-    one : suc (left - 1) ≡ left
+    one : left ≡ suc (left - 1)
     one = omega arith
 
-    module _ (y : ℕ) (g : y ≡ next_of (arena_at m' at') x) where
-      pub assigned_again : (y ≡ op → ⊥) → Assigned store rect s op first m₀ m' at' y set2 (left - 1)
-      assigned_again q = record {
-        goal = (λ i. assign_edges (points_in store s.nodes) (left - 1) rect (is_passed i) op ((g ∙ ap (λ a. next_of a x) is_passed) i) (sides i))
-            ∙ assign_goes_on (points_in store s.nodes) rect (left - 1) (arena_at m at) op x set (λ w. q (g ∙ ap (λ a. next_of a x) is_passed ∙ w)) ∙ rw one I.goal;
+    module _ (y : ℕ) (g : y ≡ next_of (arena_of m') x) where
+      pub assigned_again : y < m'.sizes.nodes → (y ≡ op → ⊥) → {left' : ℕ} → left ≡ suc left' → Assigned rect op first m₀ m' y set2 left'
+      assigned_again h q {left'} s = record {
+        goal = (λ i. assign_edges (pts_of m₀) left' rect (is_passed i) op ((g ∙ ap (λ a. next_of a x) is_passed) i) (sides i))
+            ∙ assign_goes_on (pts_of m₀) rect left' (arena_of m) op x set (λ w. q (g ∙ ap (λ a. next_of a x) is_passed ∙ w)) ∙ rw s at I.goal;
         so_far = on;
-        here = omega (arith, g, on.becomes.nodes, on.becomes.holds.valid.next_in x (omega (arith, on.becomes.nodes, I.here)));
+        here = h;
       }
 
-      pub assigned_stop : y ≡ op → Enters m₀ m' s at' (assign_edges (points_in store s.nodes) s.nodes rect (arena_at m₀ s) op op first)
+      pub assigned_stop : y ≡ op → Enters m₀ m' (assign_edges (pts_of m₀) m₀.sizes.nodes rect (arena_of m₀) op op first)
       assigned_stop q =
-          enters_renamed on (is_passed ∙ assign_stops (points_in store s.nodes) rect (left - 1) (arena_at m at) op x set (sym (g ∙ ap (λ a. next_of a x) is_passed) ∙ q) ∙ rw one I.goal)
+          enters_renamed on (is_passed ∙ assign_stops (pts_of m₀) rect (left - 1) (arena_of m) op x set (sym (g ∙ ap (λ a. next_of a x) is_passed) ∙ q) ∙ rw one at I.goal)
 
-  pub assigned_out : left ≤ 0 → Enters m₀ m s at (assign_edges (points_in store s.nodes) s.nodes rect (arena_at m₀ s) op op first)
+  pub assigned_out : left ≡ 0 → Enters m₀ m (assign_edges (pts_of m₀) m₀.sizes.nodes rect (arena_of m₀) op op first)
   unfolding assign_edges
-  assigned_out h = let z : left ≡ 0 = omega arith in enters_renamed I.so_far (rw z at I.goal)
+  assigned_out z = enters_renamed I.so_far (rw z at I.goal)

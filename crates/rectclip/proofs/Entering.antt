@@ -12,8 +12,8 @@ use Rattle.plane.specs.Rectangle.{is_empty, intersects, get_bounds_path}
 use Rattle.reference.specs.Walk.{Walk, no_room}
 use Rattle.reference.specs.Lines.{walk_open, execute_lines}
 use Rattle.reference.specs.Entry.{Drawing, answered}
-use Rattle.entry.specs.declared.answer.Answer.{Answer}
-use Rattle.entry.specs.declared.answer.Answer.TheVariants as answer
+use Rattle.std.specs.Prelude.{Result, Ok, Err}
+use Rattle.entry.specs.declared.answer.Counts.{Counts}
 use Rattle.entry.specs.declared.answer.Refusal.{Refusal}
 use Rattle.entry.specs.Answers.{number}
 use Rattle.rectclip.specs.Pieces.{paths_of}
@@ -42,16 +42,16 @@ module _ (rect : Rect64) (path : List ℤ) (W : ℕ) where
 
 -- ---- what a call leaves of it, that no early refusal stopped
 module _ (coordinates : List ℤ) (lengths : List ℕ) (store : List ℤ) (work : List ℕ) {d : Try Drawing} where
-  pub leaves_none : d ≡ ok ([], 0) → {r : Answer} → r ≡ answer.Drawn (record { paths = 0; points = 0; turns = 0 }) → Leaves (answered (lent coordinates lengths store work) 0 d) r coordinates lengths
+  pub leaves_none : d ≡ ok ([], 0) → {r : Result Counts Refusal} → r ≡ Ok (record { paths = 0; points = 0; turns = 0 }) → Leaves (answered (lent coordinates lengths store work) 0 d) r coordinates lengths
   unfolding answered
   leaves_none e er =
       rw (e, er)
       (long_enough coordinates lengths store work [] 0 (omega arith) (omega arith) refl refl refl (record { points = refl; counts = refl }))
 
-  pub leaves_drawing : (x : Drawing) → d ≡ ok x → {r : Answer} {coordinates' : List ℤ} {lengths' : List ℕ} → Delivers x coordinates lengths r coordinates' lengths' → Leaves (answered (lent coordinates lengths store work) 0 d) r coordinates' lengths'
+  pub leaves_drawing : (x : Drawing) → d ≡ ok x → {r : Result Counts Refusal} {coordinates' : List ℤ} {lengths' : List ℕ} → Delivers x coordinates lengths r coordinates' lengths' → Leaves (answered (lent coordinates lengths store work) 0 d) r coordinates' lengths'
   unfolding answered
   leaves_drawing x e D = rw e (D.is store work)
 
-  pub leaves_refusal : (why : Refusal) → d ≡ refuse (number why) → Leaves (answered (lent coordinates lengths store work) 0 d) (answer.Refused why) coordinates lengths
+  pub leaves_refusal : (why : Refusal) → d ≡ refuse (number why) → Leaves (answered (lent coordinates lengths store work) 0 d) (Err why) coordinates lengths
   unfolding answered
   leaves_refusal why e = rw e (record { answer = refl; coords = refl; counts = refl })

@@ -1,77 +1,50 @@
 -- The polygon clipper after its walk is the definition's: one step's arena is the next one's. Assumes nothing.
-use mathlib.Core.Path.{◌≡◌, refl, sym, ◌∙◌}
-use mathlib.Core.Bool.{true, false}
-use mathlib.Core.List.{List}
+use Rattle.std.specs.Prelude.{Result, Ok}
+use mathlib.Core.Path.{◌≡◌, sym, ◌∙◌}
 use Prim.Native.Nat.{ℕ, ◌-◌}
 use native.Mathlib.Omega.{arith}
-use lib.IntN.{ℤ}
 use Rattle.plane.specs.declared.rect.Rect64.{Rect64}
-use Rattle.plane.specs.Basics.{upwards, Try}
-use Rattle.reference.specs.Arena.{Arena, check_edges}
-use Rattle.rectclip.specs.declared.arena.Sizes.{Sizes}
+use Rattle.plane.specs.Basics.{upwards}
+use Rattle.reference.specs.Arena.{check_edges}
+use Rattle.entry.specs.declared.answer.Refusal.{Refusal}
+use Rattle.rectclip.specs.declared.arena.Arena as lent
 use Rattle.rectclip.specs.declared.paths.Counts.{Counts}
-use Rattle.rectclip.specs.declared.tidy.Tidied.{Tidied}
-use Rattle.rectclip.specs.Arenas.{arena_at, Leaves, Enters}
-use Rattle.rectclip.specs.Stored.{points_in, Drawn}
-use Rattle.rectclip.specs.Edges.{Checking}
+use Rattle.rectclip.specs.Arenas.{Spare}
+use Rattle.rectclip.specs.Changes.{arena_of, pts_of, Leaves, Enters}
 use Rattle.rectclip.specs.Paths.{straighten_results, nodes_read, CountedAll}
 use Rattle.rectclip.specs.Turns.{Allowing, answer, TidiedAs, tidied_all}
-use Rattle.rectclip.specs.Clipping.{Clipping, ClippedAs}
-use Rattle.rectclip.proofs.Spare.{results_length, spare_slots}
+use Rattle.rectclip.specs.Clipping.{ClippedAs}
+use Rattle.rectclip.proofs.Spare.{spare_slots}
+use Rattle.rectclip.proofs.Changes.{results_many, then_same, becomes_left, points_stay, then_becomes}
 
-module _ {store : List ℤ} {m : List ℕ} {s : Sizes} {A : ℕ} (x : Clipping store m s A) where
-  pub may_check : Checking store m s
-  may_check = record { drawn = x.drawn; holds = x.holds; spare = record { results = omega (arith, x.spare.results); lists = λ e h. omega (arith, x.spare.lists e h) } }
-
-  module _ (rect : Rect64) {m₁ : List ℕ} {s₁ : Sizes} (k : Enters m m₁ s s₁ (check_edges (points_in store s.nodes) rect (arena_at m s))) where
-    pub may_tidy : Allowing store m₁ s₁ 0 A 0
-    may_tidy =
-        let z : A - 0 ≡ A = omega arith in
-        record {
-          drawn = rw k.becomes.nodes x.drawn;
-          holds = k.becomes.holds;
-          spare = spare_slots k.becomes.slots (rw (k.becomes.is, z) (k.spare s.slots A x.spare));
-          side_in = omega arith;
-          turns_in = omega arith;
-        }
-
-    module _ {m₂ : List ℕ} (u : Tidied) (t : TidiedAs m₁ m₂ s₁ A u (tidied_all (points_in store s₁.nodes) A (arena_at m₁ s₁))) where
-      pub tidied_drawn : Drawn store u.s.nodes
-      tidied_drawn = rw (t.becomes.nodes ∙ k.becomes.nodes) x.drawn
-
-      -- the definition's answer
-      wanted : Try (Arena × ℕ)
-      wanted = tidied_all (points_in store s.nodes) A (check_edges (points_in store s.nodes) rect (arena_at m s))
-
-      is_wanted : answer m₂ u ≡ wanted
-      unfolding wanted
-      is_wanted = t.is ∙ (λ i. tidied_all (points_in store (k.becomes.nodes i)) A (k.becomes.is i))
-
-      pub clipped_full : u.full ≡ true → (c : Counts)
-          → ClippedAs (points_in store s.nodes) m m₂ s (record { full = true; turns = u.turns; s = u.s; counts = c }) (tidied_all (points_in store s.nodes) A (check_edges (points_in store s.nodes) rect (arena_at m s)))
-      unfolding wanted
-      clipped_full e c = record {
-        refused = λ _. sym is_wanted ∙ rw e refl;
-        clipped = λ w. let z : ◌≡◌ {A = ℕ} 0 1 = cc in absurd (omega arith);
-        holds = t.becomes.holds;
-        nodes = t.becomes.nodes ∙ k.becomes.nodes;
-        same = t.becomes.same ∙ k.becomes.same;
+module _ {m : lent.Arena} {A : ℕ} (x : Spare m.sizes.slots A (arena_of m)) (rect : Rect64) {m₁ : lent.Arena} (k : Enters m m₁ (check_edges (pts_of m) rect (arena_of m))) where
+  pub may_tidy : Allowing m₁ 0 A 0
+  may_tidy =
+      let z : A - 0 ≡ A = omega arith in
+      record {
+        spare = spare_slots k.becomes.slots (rw (k.becomes.is, z) (k.spare m.sizes.slots A x));
+        side_in = omega arith;
+        turns_in = omega arith;
       }
 
-      pub clipped_done : u.full ≡ false → {m₃ : List ℕ} → Leaves m₂ m₃ u.s (straighten_results (points_in store u.s.nodes) (arena_at m₂ u.s) (upwards 0 u.s.results))
-          → (c : Counts) → CountedAll c (nodes_read u.s.nodes (arena_at m₃ u.s) (upwards 0 u.s.results))
-          → ClippedAs (points_in store s.nodes) m m₃ s (record { full = false; turns = u.turns; s = u.s; counts = c }) (tidied_all (points_in store s.nodes) A (check_edges (points_in store s.nodes) rect (arena_at m s)))
-      unfolding wanted
-      clipped_done e l c n = record {
-        refused = λ w. let z : ◌≡◌ {A = ℕ} 0 1 = cc in absurd (omega arith);
-        clipped = λ _. record {
-          b = arena_at m₂ u.s;
-          tidied = sym is_wanted ∙ rw e refl;
-          is = l.is ∙ (λ i. straighten_results (points_in store ((t.becomes.nodes ∙ k.becomes.nodes) i)) (arena_at m₂ u.s) (upwards 0 (sym (results_length m₂ u.s) i)));
+  -- the definition's answer
+  is_wanted : {m₂ : lent.Arena} (u : Result ℕ Refusal) → TidiedAs m₁ m₂ A u (tidied_all (pts_of m₁) A (arena_of m₁)) → answer m₂ u ≡ tidied_all (pts_of m) A (check_edges (pts_of m) rect (arena_of m))
+  is_wanted u t = t.is ∙ (λ i. tidied_all (points_stay k.becomes i) A (k.becomes.is i))
+
+  pub clipped_done : {m₂ : lent.Arena} (turns : ℕ) → TidiedAs m₁ m₂ A (Ok turns) (tidied_all (pts_of m₁) A (arena_of m₁))
+      → {m₃ : lent.Arena} → Leaves m₂ m₃ (straighten_results (pts_of m₂) (arena_of m₂) (upwards 0 m₂.sizes.results))
+      → (c : Counts) → CountedAll c (nodes_read m₃.sizes.nodes (arena_of m₃) (upwards 0 m₃.sizes.results))
+      → ClippedAs (pts_of m) m m₃ (Ok (record { turns = turns; counts = c })) (tidied_all (pts_of m) A (check_edges (pts_of m) rect (arena_of m)))
+  clipped_done {m₂} turns t l c n =
+      let both = then_becomes (λ _ _ _. arena_of m₂) k.becomes t.becomes in
+      record {
+        answer = record {
+          b = arena_of m₂;
+          tidied = sym (is_wanted (Ok turns) t);
+          is = l.is ∙ (λ i. straighten_results (points_stay both i) (arena_of m₂) (upwards 0 (sym (results_many m₂) i)));
           counts = n;
-          results = results_length m₂ u.s;
+          results = results_many m₂ ∙ sym (λ i. (l.sizes i).results);
         };
-        holds = l.holds;
-        nodes = t.becomes.nodes ∙ k.becomes.nodes;
-        same = l.same ∙ t.becomes.same ∙ k.becomes.same;
+        nodes = (becomes_left l).nodes ∙ both.nodes;
+        same = then_same both.same l.same;
       }

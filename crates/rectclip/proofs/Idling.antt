@@ -6,7 +6,6 @@ use mathlib.Core.List.{List}
 use Prim.Native.Nat.{ℕ, zero, suc, ◌+◌, ◌*◌, ◌-◌, ◌<◌, ◌≤◌}
 use native.Mathlib.Omega.{arith}
 use lib.ListN.{length, get_or}
-use lib.IntN.{ℤ}
 use lib.Dec.{ltb}
 use borrow.Author.Tests.{lt-ltb}
 use Rattle.plane.specs.declared.point.Point64.{Point64}
@@ -14,20 +13,16 @@ use Rattle.plane.specs.Basics.{none, ok}
 use Rattle.reference.specs.Arena.{Arena, edge_list}
 use Rattle.reference.specs.Tidy.{is_horz, cw_is_toward_larger, four_of, overlap, one_turn, turn, turns_from}
 use Rattle.reference.specs.Tidy as reference
-use Rattle.rectclip.specs.declared.arena.Sizes.{Sizes}
+use Rattle.rectclip.specs.declared.arena.Arena as lent
 use Rattle.rectclip.specs.declared.regroup.Four.{Four}
-use Rattle.rectclip.specs.Arenas.{arena_at}
-use Rattle.rectclip.specs.Stored.{points_in}
+use Rattle.rectclip.specs.Changes.{arena_of, pts_of}
 use Rattle.rectclip.specs.Turns.{is_live, Sought, four, Fourth, Turning, Idling, Idled}
-use Rattle.rectclip.proofs.Spare.{list_length}
-use Rattle.rectclip.proofs.Seeking.{live_some, live_ring, sought_there, seeking_end}
-use Rattle.rectclip.proofs.Turns.{root_in, turn_sought, turn_end, turn_apart}
+use Rattle.rectclip.proofs.Changes.{list_long}
+use Rattle.rectclip.proofs.Seeking.{SeekingOn, live_some, live_ring, sought_there, seeking_end}
+use Rattle.rectclip.proofs.Turns.{turn_sought, turn_end, turn_apart}
 use Rattle.rectclip.proofs.Tidying.{turns_on, turned_is}
 
 module _ {pts : List Point64} {idx : ℕ} {a : Arena} where
-  pub idled_start : {left i j : ℕ} → Idled pts idx a left i j left i j
-  idled_start = record { same = λ A h. refl; fewer = omega arith }
-
   module _ {left₀ i₀ j₀ left i j : ℕ} (I : Idled pts idx a left₀ i₀ j₀ left i j) where
     pub idled_on : {left' i' j' : ℕ} → Idled pts idx a left i j left' i' j' → Idled pts idx a left₀ i₀ j₀ left' i' j'
     idled_on k = record { same = λ A h. k.same A (omega (arith, I.fewer)) ∙ I.same A h; fewer = omega (arith, I.fewer, k.fewer) }
@@ -56,33 +51,29 @@ module _ {pts : List Point64} {idx : ℕ} {a : Arena} where
         go (suc n) taken = ap (λ (t : reference.Turn). if ltb i (length (edge_list a (idx * 2))) then turns_from pts idx n (taken + 1) t else ok (a, taken)) there
 
 -- ---- the turns at a live clockwise entry
-pub may_idle : {store : List ℤ} {m : List ℕ} {s : Sizes} {idx i : ℕ} → Turning store m s idx → i < get_or s.lens (idx * 2) 0 → (r1 : ℕ) → r1 ≡ get_or (edge_list (arena_at m s) (idx * 2)) i none
-    → (b : Bool) → b ≡ is_live (arena_at m s) r1 → b ≡ true → Idling store m s idx i (get_or s.lens (idx * 2 + 1) 0)
-may_idle {m = m} {s} x h r1 e b w t = record { turning = x; i_in = h; live = ap (is_live (arena_at m s)) (sym e) ∙ sym w ∙ t; len_is = refl }
+pub may_idle : {m : lent.Arena} {idx i : ℕ} → Turning m idx → i < get_or m.sizes.lens (idx * 2) 0 → (r1 : ℕ) → r1 ≡ get_or (edge_list (arena_of m) (idx * 2)) i none
+    → (b : Bool) → b ≡ is_live (arena_of m) r1 → b ≡ true → Idling m idx i
+may_idle {m} x h r1 e b w t = record { turning = x; i_in = h; live = ap (is_live (arena_of m)) (sym e) ∙ sym w ∙ t }
 
-pub live_entry : {store : List ℤ} {m : List ℕ} {s : Sizes} {idx i len : ℕ} → Idling store m s idx i len → (r1 : ℕ) → r1 ≡ get_or (edge_list (arena_at m s) (idx * 2)) i none → r1 < s.nodes
-live_entry {m = m} {s} {idx} {i} x r1 e =
-    root_in x.turning.holds (idx * 2) i r1 (omega (arith, x.turning.side_in)) x.i_in e (live_some (arena_at m s) r1 (rw e x.live))
-
-module _ {store : List ℤ} {m : List ℕ} {s : Sizes} {idx i len : ℕ} (x : Idling store m s idx i len) {left₀ i₀ j₀ left j : ℕ}
-    (I : Idled (points_in store s.nodes) idx (arena_at m s) left₀ i₀ j₀ left i j) (z : 0 < left) (r1 : ℕ) (e1 : r1 ≡ get_or (edge_list (arena_at m s) (idx * 2)) i none) where
-  live : is_live (arena_at m s) r1 ≡ true
+module _ {m : lent.Arena} {idx i : ℕ} (x : Idling m idx i) {left₀ i₀ j₀ left j : ℕ}
+    (I : Idled (pts_of m) idx (arena_of m) left₀ i₀ j₀ left i j) (z : 0 < left) (r1 : ℕ) (e1 : r1 ≡ get_or (edge_list (arena_of m) (idx * 2)) i none) where
+  live : is_live (arena_of m) r1 ≡ true
   live = rw e1 x.live
 
-  inside : i < length (edge_list (arena_at m s) (idx * 2))
-  inside = omega (arith, x.i_in, list_length m s x.turning.holds.eight (idx * 2) (omega (arith, x.turning.side_in)))
+  inside : i < length (edge_list (arena_of m) (idx * 2))
+  inside = omega (arith, x.i_in, list_long m (idx * 2) (omega (arith, x.turning.side_in)))
 
   -- the other list is worked off
-  pub idled_end : len ≤ j → Idled (points_in store s.nodes) idx (arena_at m s) left₀ i₀ j₀ (left - 1) (i + 1) 0
-  idled_end h =
-      let out : get_or s.lens (idx * 2 + 1) 0 ≤ j = omega (arith, x.len_is) in
-      let k : Sought (arena_at m s) (idx * 2 + 1) j j = seeking_end (record { goal = refl }) x.turning.holds (omega (arith, x.turning.side_in)) out in
-      idled_turn I z inside (i + 1) 0 (turned_is (turn_end x.turning i j r1 e1 (live_some (arena_at m s) r1 live) (live_ring (arena_at m s) r1 live) j k out).turned)
+  pub idled_end : get_or m.sizes.lens (idx * 2 + 1) 0 ≤ j → Idled (pts_of m) idx (arena_of m) left₀ i₀ j₀ (left - 1) (i + 1) 0
+  idled_end out =
+      let here : SeekingOn m (idx * 2 + 1) j j = record { goal = refl; most = omega arith } in
+      let k : Sought (arena_of m) (idx * 2 + 1) j j = seeking_end here (omega (arith, x.turning.side_in)) out in
+      idled_turn I z inside (i + 1) 0 (turned_is (turn_end x.turning i j r1 e1 (live_some (arena_of m) r1 live) (live_ring (arena_of m) r1 live) j k out).turned)
 
   -- the two edges do not overlap
-  pub idled_apart : j < len → Sought (arena_at m s) (idx * 2 + 1) j j → (r2 : ℕ) → r2 ≡ get_or (edge_list (arena_at m s) (idx * 2 + 1)) j none
-      → (f : Four) → Fourth s.nodes f (four_of (cw_is_toward_larger idx) (arena_at m s) r1 r2)
-      → {meets : Bool} → meets ≡ overlap (points_in store s.nodes) (is_horz idx) (four f) → meets ≡ false → Idled (points_in store s.nodes) idx (arena_at m s) left₀ i₀ j₀ (left - 1) i (j + 1)
+  pub idled_apart : j < get_or m.sizes.lens (idx * 2 + 1) 0 → Sought (arena_of m) (idx * 2 + 1) j j → (r2 : ℕ) → r2 ≡ get_or (edge_list (arena_of m) (idx * 2 + 1)) j none
+      → (f : Four) → Fourth m.sizes.nodes f (four_of (cw_is_toward_larger idx) (arena_of m) r1 r2)
+      → {meets : Bool} → meets ≡ overlap (pts_of m) (is_horz idx) (four f) → meets ≡ false → Idled (pts_of m) idx (arena_of m) left₀ i₀ j₀ (left - 1) i (j + 1)
   idled_apart h k r2 e2 f v w o =
       idled_turn I z inside i (j + 1)
-      (turned_is (turn_apart x.turning i j r1 e1 (live_some (arena_at m s) r1 live) (live_ring (arena_at m s) r1 live) j k (omega (arith, x.len_is)) r2 e2 f v w o).turned)
+      (turned_is (turn_apart x.turning i j r1 e1 (live_some (arena_of m) r1 live) (live_ring (arena_of m) r1 live) j k h r2 e2 f v w o).turned)

@@ -8,6 +8,7 @@ pub mod Adding
 pub mod Turning
 pub mod Scanning
 pub mod Moving
+pub mod Steps
 pub mod Closing
 pub mod ClosedPass
 pub mod ClosedPasses
@@ -26,7 +27,6 @@ pub mod Polygons
 pub mod Memory
 pub mod Columns
 pub mod Coordinates
-pub mod Clearing
 pub mod Passing
 pub mod Crossing
 pub mod Opening
@@ -44,7 +44,7 @@ pub mod Owners
 pub mod Dropping
 pub mod Straightening
 pub mod Spare
-pub mod Becoming
+pub mod Changes
 pub mod Checking
 pub mod Starts
 pub mod Counting

@@ -7,7 +7,6 @@ use native.Mathlib.Omega.{arith}
 use borrow.Author.Tests.{leb-true}
 use lib.IntN.{ℤ, nat_abs}
 use Rattle.plane.proofs.Limits.{rect_limited}
-use Rattle.plane.specs.declared.point.Point64.{Point64}
 use Rattle.plane.specs.declared.rect.Rect64.{Rect64}
 use Rattle.plane.specs.declared.location.Location.{Location}
 use Rattle.plane.specs.declared.location.Location.TheVariants.{Left, Top, Right, Bottom, Inside}
@@ -15,7 +14,7 @@ use Rattle.plane.specs.Limit.{in_limit, all_in_limit, rect_in_limit, Limited, Li
 use Rattle.plane.specs.Points.{pt_at, points_of}
 use Rattle.plane.specs.Rectangle.{corner}
 use Rattle.integers.specs.Tests.{T_of}
-use Rattle.rectclip.specs.Bounds.{Reached, SearchLimits}
+use Rattle.rectclip.specs.Bounds.{Reached}
 use Rattle.theorems.proofs.Tests.{both}
 
 within : (z : ℤ) → in_limit z ≡ true → nat_abs z ≤ 33554432
@@ -36,7 +35,3 @@ close_corner r Top e = let F = framed r e in record { across = omega (arith, F.r
 close_corner r Right e = let F = framed r e in record { across = omega (arith, F.right); down = omega (arith, F.bottom) }
 close_corner r Bottom e = let F = framed r e in record { across = omega (arith, F.left); down = omega (arith, F.bottom) }
 close_corner r Inside e = let F = framed r e in record { across = omega (arith, F.left); down = omega (arith, F.top) }
-
--- what a search asks, of two points of the path
-pub searches : {r : Rect64} {p p2 : Point64} → rect_in_limit r ≡ true → Limited p → Limited p2 → SearchLimits r p p2
-searches {r} e a b = record { rect = framed r e; start = a; end = b }

@@ -1,7 +1,7 @@
 -- A walked outline clipped over the lists is the definition's `clip_walked`: its arena is tidied, and what the definition reads ring by
 -- ring is what is left in the arena. Assumes nothing.
+use Rattle.std.specs.Prelude.{Ok, Err}
 use mathlib.Core.Path.{◌≡◌, refl, sym, ◌∙◌, ap}
-use mathlib.Core.Bool.{Bool, true, false}
 use mathlib.Core.List.{List, [], ◌∷◌, map}
 use Prim.Native.Nat.{ℕ, zero, suc, ◌+◌, ◌/◌, ◌<◌, ◌≤◌}
 use native.Mathlib.Omega.{arith}
@@ -21,15 +21,19 @@ use Rattle.theorems.proofs.Holds.{holds_ok}
 use Rattle.theorems.proofs.ReadAll.{Whole, whole_some}
 use Rattle.theorems.proofs.WalkArena.{Met, met_whole, walk_behind}
 use Rattle.theorems.proofs.AreaKeeps.{four_met}
-use Rattle.rectclip.specs.declared.arena.Sizes.{Sizes}
+use Rattle.entry.specs.Answers.{number}
+use Rattle.entry.specs.declared.answer.Refusal.{Refusal}
+use Rattle.rectclip.specs.declared.arena.Arena as lent
 use Rattle.rectclip.specs.declared.clipping.Clipped.{Clipped}
 use Rattle.rectclip.specs.declared.outline.Outline.{Outline}
 use Rattle.rectclip.specs.Walking.{Fits}
-use Rattle.rectclip.specs.Arenas.{arena_at}
+use Rattle.rectclip.specs.Arenas.{Spare}
+use Rattle.rectclip.specs.Changes.{pts_of}
+use Rattle.rectclip.specs.Changes as changes
 use Rattle.rectclip.specs.Stored.{points_in, Drawn}
 use Rattle.rectclip.specs.Turns.{tidied_all}
 use Rattle.rectclip.specs.Paths.{straighten_results, nodes_read}
-use Rattle.rectclip.specs.Clipping.{Clipping, ClippedAs}
+use Rattle.rectclip.specs.Clipping.{ClippedAs}
 use Rattle.rectclip.specs.Delivering.{walked_of, rings_left, drawing_left, Readable, Arranging, Arranged, OutlineClips}
 use Rattle.rectclip.proofs.Adding.{walk_points, walk_length}
 use Rattle.rectclip.proofs.Coordinates.{points_length}
@@ -86,65 +90,57 @@ module _ {rect : Rect64} {A : ℕ} {store : List ℤ} {work : List ℕ} {o : Out
   abbrev w : Walked
   w = walked_of store work o
 
-  pub arranging : Arranging work (length store / 2 + A + 1) o
-  arranging = record { room = record { cells = x.room.cells; small = omega (arith, x.room.few, x.room.turns) }; points = omega (arith, x.fits.points); corners = x.corners }
+  drawn : Drawn store o.walk.points
+  drawn = walk_drawn o x.fits
+
+  pub arranging : Arranging store work (length store / 2 + A + 1) o
+  arranging = record { room = record { cells = x.room.cells; small = omega (arith, x.room.few, x.room.turns) }; drawn = drawn; points = omega (arith, x.fits.points); corners = x.corners }
 
   small : length w.walk.points ≤ none
   small = omega (arith, walk_length x.fits, x.fits.points, x.room.few)
 
-  module _ {m : List ℕ} {s : Sizes} (a : Arranged work m (length store / 2 + A + 1) o s) where
-    pub may_clip : Clipping store m s A
-    may_clip = record { drawn = rw a.nodes_are (walk_drawn o x.fits); holds = a.holds; spare = spare_slots a.slots_are (a.spare A (omega (arith, x.fits.points))) }
+  module _ {m : lent.Arena} (a : Arranged store work (length store / 2 + A + 1) o m) where
+    pub may_clip : Spare m.sizes.slots A (changes.arena_of m)
+    may_clip = spare_slots a.slots_are (a.spare A (omega (arith, x.fits.points)))
 
-    points_are : w.walk.points ≡ points_in store s.nodes
+    points_are : w.walk.points ≡ pts_of m
     unfolding points_in
-    points_are = walk_points x.fits ∙ ap (λ (n : ℕ). take n (points_of store)) (sym a.nodes_are)
+    points_are = walk_points x.fits ∙ (λ i. take (sym a.nodes_are i) (points_of (sym a.store i)))
 
-    arena_is : arena_of w ≡ arena_at m s
+    arena_is : arena_of w ≡ changes.arena_of m
     unfolding arena_of
     arena_is = sym (a.is ∙ (λ i. enter_all (ring (sym (walk_length x.fits) i)) w.entered))
 
-    module _ {m' : List ℕ} (c : Clipped)
-        (K : ClippedAs (points_in store s.nodes) m m' s c (tidied_all (points_in store s.nodes) A (check_edges (points_in store s.nodes) rect (arena_at m s)))) where
-      tidied_is : tidied_all w.walk.points A (check_edges w.walk.points rect (arena_of w)) ≡ tidied_all (points_in store s.nodes) A (check_edges (points_in store s.nodes) rect (arena_at m s))
-      tidied_is i = tidied_all (points_are i) A (check_edges (points_are i) rect (arena_is i))
+    -- the tidied arena, as the definition has it
+    abbrev tidied : Try (Arena × ℕ)
+    tidied = tidied_all (pts_of m) A (check_edges (pts_of m) rect (changes.arena_of m))
 
-      clipped_spent : c.full ≡ true → clip_walked A rect w ≡ drawing_left store m' c
+    tidied_is : tidied_all w.walk.points A (check_edges w.walk.points rect (arena_of w)) ≡ tidied
+    tidied_is i = tidied_all (points_are i) A (check_edges (points_are i) rect (arena_is i))
+
+    pub clipped_spent : {m' : lent.Arena} (why : Refusal) → ClippedAs (pts_of m) m m' (Err why) tidied → clip_walked A rect w ≡ refuse (number why)
+    clipped_spent why K = tidied_read A rect w ∙ ap (λ (t : Try (Arena × ℕ)). t >>= λ t. ok (get_paths w.walk.points t.0 (upwards 0 (length t.0.results)), t.1)) (tidied_is ∙ K.answer)
+
+    module _ {m' : lent.Arena} (c : Clipped) (K : ClippedAs (pts_of m) m m' (Ok c) tidied) where
+      pub clipped_is : clip_walked A rect w ≡ drawing_left m' c
       unfolding drawing_left
-      clipped_spent e =
-          let q : tidied_all w.walk.points A (check_edges w.walk.points rect (arena_of w)) ≡ refuse 10 = tidied_is ∙ K.refused e in
-          tidied_read A rect w ∙ rw (q, e) refl
-
-      clipped_read : c.full ≡ false → clip_walked A rect w ≡ ok (map (map (pt_of (points_in store c.s.nodes))) (rings_left m' c), c.turns)
-      clipped_read e =
-          let S = K.clipped e in
+      clipped_is =
+          let S = K.answer in
           let b = S.b in
-          let n : length w.walk.points ≡ c.s.nodes = walk_length x.fits ∙ sym (K.nodes ∙ a.nodes_are) in
-          let p : w.walk.points ≡ points_in store c.s.nodes = points_are ∙ ap (points_in store) (sym K.nodes) in
-          let z : straighten_results w.walk.points b (upwards 0 (length b.results)) ≡ arena_at m' c.s = ap (λ (q : List Point64). straighten_results q b (upwards 0 (length b.results))) points_are ∙ sym S.is in
+          let n : length w.walk.points ≡ m'.sizes.nodes = walk_length x.fits ∙ sym (K.nodes ∙ a.nodes_are) in
+          let p : w.walk.points ≡ pts_of m' = points_are ∙ (λ i. points_in (sym K.same.store i) (sym K.nodes i)) in
+          let z : straighten_results w.walk.points b (upwards 0 (length b.results)) ≡ changes.arena_of m' = ap (λ (q : List Point64). straighten_results q b (upwards 0 (length b.results))) points_are ∙ sym S.is in
           tidied_paths A rect w small x.entered b c.turns (tidied_is ∙ S.tidied)
           ∙ (λ i. ok (map (map (pt_of (p i))) (nodes_read (n i) (z i) (upwards 0 (S.results i))), c.turns))
 
-      pub clipped_is : clip_walked A rect w ≡ drawing_left store m' c
+      pub readable : Readable m' c
       unfolding drawing_left
-      clipped_is = go c.full refl
-        where
-          go : (b : Bool) → c.full ≡ b → clip_walked A rect w ≡ drawing_left store m' c
-          go true e = clipped_spent e
-          go false e = clipped_read e ∙ rw e refl
-
-      pub readable : Readable store m' c
-      readable = record {
-        drawn = rw (K.nodes ∙ a.nodes_are) (walk_drawn o x.fits);
-        holds = K.holds;
-        counted = λ e.
-            let C = (K.clipped e).counts in
-            let pts = points_in store c.s.nodes in
-            let f = x.few _ c.turns (clipped_read e) in
-            record {
-              counts = C;
-              few_paths = omega (arith, C.paths, paths_count pts (rings_left m' c), f.0, f.1, x.room.turns);
-              few_points = omega (arith, C.points, points_count pts (rings_left m' c), f.2);
-              few_turns = omega (arith, f.0, x.room.turns);
-            };
-      }
+      readable =
+          let C = K.answer.counts in
+          let f = x.few _ c.turns clipped_is in
+          record {
+            counts = C;
+            few_paths = omega (arith, C.paths, paths_count (pts_of m') (rings_left m'), f.0, f.1, x.room.turns);
+            few_points = omega (arith, C.points, points_count (pts_of m') (rings_left m'), f.2);
+            few_turns = omega (arith, f.0, x.room.turns);
+          }

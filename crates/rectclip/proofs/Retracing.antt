@@ -6,7 +6,6 @@ use mathlib.Core.Logic.{⊎_elim}
 use Prim.Native.Nat.{ℕ, suc, ◌+◌, ◌<◌, ◌≤◌}
 use native.Mathlib.Omega.{arith}
 use native.Mathlib.Numerals.{add-one}
-use lib.IntN.{ℤ}
 use lib.ListN.{length, get_or, drop}
 use lib.Seq.{drop-cons, drop-length}
 use Rattle.plane.specs.declared.rect.Rect64.{Rect64}
@@ -17,15 +16,14 @@ use Rattle.plane.specs.Locations.{same_location, heading_clockwise}
 use Rattle.reference.specs.Walk.{Walk, State, add, add_corner_loc, retrace}
 use Rattle.theorems.proofs.Locations.{same_place}
 use Rattle.entry.specs.declared.answer.Refusal.{Refusal}
-use Rattle.rectclip.specs.declared.walk.WalkState.{WalkState}
-use Rattle.rectclip.specs.declared.walk.Step.{Step}
-use Rattle.rectclip.specs.declared.walk.Step.TheVariants.{Walked, Refused}
+use Rattle.rectclip.specs.declared.walk.Walker.{Walker}
+use Rattle.std.specs.Prelude.{Result, Ok, Err}
 use Rattle.rectclip.specs.Memory.{at}
-use Rattle.rectclip.specs.Walking.{location, walk_of, turned, Fits, Stepped}
+use Rattle.rectclip.specs.Walking.{location, walk_of, turned}
+use Rattle.rectclip.specs.Steps.{walk, full, Same, Steps}
 use Rattle.rectclip.specs.Outlining.{corner_toward, close_walk}
-use Rattle.rectclip.proofs.Walking.{on_refuse, step_walked, step_refused, walked_is, refused_is, Going, going_start}
-use Rattle.rectclip.proofs.Closing.{step_as, roomed}
-use Rattle.rectclip.proofs.ClosedPass.{room}
+use Rattle.rectclip.proofs.Walking.{on_refuse}
+use Rattle.rectclip.proofs.Steps.{stays, named, after, done_is, refused_is}
 use Rattle.rectclip.proofs.Added.{either, added}
 use Rattle.rectclip.proofs.StartSides.{sides, sides_length, side_at}
 
@@ -77,18 +75,21 @@ module _ (full : ℕ → Bool) (rect : Rect64) (w : Walk) (p q : Location) where
         (either (same_location p q))
 
 -- ---- `corner_toward`
-module _ (rect : Rect64) (store : List ℤ) (work : List ℕ) (s : WalkState) (p q : Location) {b : Bool} (eb : b ≡ same_location p q) where
-  pub toward_kept : Fits store work s → b ≡ true → Stepped (corner_toward (room store) rect (walk_of store work s) p q) store work (Walked s)
-  toward_kept F t = step_walked (sym (toward_same (room store) rect (walk_of store work s) p q (sym eb ∙ t))) F
+module _ (x : Walker) (p q : Location) {b : Bool} (eb : b ≡ same_location p q) where
+  pub toward_kept : b ≡ true → Steps (corner_toward (full x) x.rect (walk x) p q) x x (Ok tt)
+  toward_kept t = stays (sym (toward_same (full x) x.rect (walk x) p q (sym eb ∙ t)))
 
-  pub toward_added : b ≡ false → {h : Bool} → h ≡ heading_clockwise p q → {store' : List ℤ} {work' : List ℕ} {r : Step}
-      → Stepped (add (room store) (walk_of store work s) (turned rect p h) false) store' work' r → Stepped (corner_toward (room store) rect (walk_of store work s) p q) store' work' r
-  toward_added t eh R = step_as (rw eh at R) (sym (toward_other (room store) rect (walk_of store work s) p q (sym eb ∙ t)))
+  pub toward_added : b ≡ false → {h : Bool} → h ≡ heading_clockwise p q → {y : Walker} {r : Result Unit Refusal}
+      → Steps (add (full x) (walk x) (turned x.rect p h) false) x y r → Steps (corner_toward (full x) x.rect (walk x) p q) x y r
+  toward_added t eh R = named (rw eh at R) (sym (toward_other (full x) x.rect (walk x) p q (sym eb ∙ t)))
 
 -- ---- the loop over the start sides
-pub walk_sides : (store : List ℤ) (work : List ℕ) (s : WalkState) → (walk_of store work s).start_locs ≡ sides s.start_locs work
+pub walk_sides : (x : Walker) → (walk x).start_locs ≡ sides x.state.start_locs x.work.now
 unfolding walk_of
-walk_sides store work s = refl
+walk_sides x = refl
+
+pub count_sides : (x : Walker) → length (walk x).start_locs ≡ x.state.start_locs
+count_sides x = ap length (walk_sides x) ∙ sides_length x.state.start_locs x.work.now
 
 abbrev pub last_corner : (ℕ → Bool) → Rect64 → Location → Walk × Location → Try Walk
 last_corner full rect first t = corner_toward full rect t.0 t.1 first
@@ -97,70 +98,55 @@ pub close_parts : (full : ℕ → Bool) (rect : Rect64) (s : State) → (retrace
 unfolding close_walk
 close_parts full rect s = refl
 
-pub record Retracing (rect : Rect64) (first : Location) (store₀ : List ℤ) (work₀ : List ℕ) (w₀ : WalkState) (p₀ : Location) (store : List ℤ) (work : List ℕ) (w : WalkState) (p : Location) (i : ℕ) : Type 0 where
-  pub going :
-      Going (retrace (room store₀) rect (walk_of store work w) p (drop i (walk_of store₀ work₀ w₀).start_locs) >>= last_corner (room store₀) rect first)
-      (retrace (room store₀) rect (walk_of store₀ work₀ w₀) p₀ (walk_of store₀ work₀ w₀).start_locs >>= last_corner (room store₀) rect first)
-      store₀ work₀ store work w
-  pub locs : (walk_of store work w).start_locs ≡ (walk_of store₀ work₀ w₀).start_locs
-  pub here : i ≤ w₀.start_locs
+-- the walker at side p, after i of the n start sides
+pub record Retracing (first : Location) (x : Walker) (p₀ : Location) (n : ℕ) (y : Walker) (p : Location) (i : ℕ) : Type 0 where
+  pub goal : (retrace (full x) x.rect (walk y) p (drop i (walk x).start_locs) >>= last_corner (full x) x.rect first) ≡ (retrace (full x) x.rect (walk x) p₀ (walk x).start_locs >>= last_corner (full x) x.rect first)
+  pub same : Same x y
+  pub locs : (walk y).start_locs ≡ (walk x).start_locs
+  pub count : y.state.start_locs ≡ n
+  pub end : n ≡ x.state.start_locs
+  pub here : i ≤ n
 
-pub retrace_start : {rect : Rect64} {first : Location} {store : List ℤ} {work : List ℕ} {w : WalkState} {p : Location} → Fits store work w → Retracing rect first store work w p store work w p 0
-retrace_start F = record { going = going_start F; locs = refl; here = omega arith }
+module _ {first : Location} {x : Walker} {p₀ : Location} {n : ℕ} {y : Walker} {p : Location} {i : ℕ} (I : Retracing first x p₀ n y p i) where
+  abbrev back : Try Walk
+  back = retrace (full x) x.rect (walk x) p₀ (walk x).start_locs >>= last_corner (full x) x.rect first
 
-module _ {rect : Rect64} {first : Location} {store₀ : List ℤ} {work₀ : List ℕ} {w₀ : WalkState} {p₀ : Location} {store : List ℤ} {work : List ℕ} {w : WalkState} {p : Location} {i : ℕ}
-    (I : Retracing rect first store₀ work₀ w₀ p₀ store work w p i) where
-  -- there are as many start sides as at first
-  pub sides_kept : w.start_locs ≡ w₀.start_locs
-  sides_kept =
-      sym (sides_length w.start_locs work) ∙ ap length (sym (walk_sides store work w) ∙ I.locs ∙ walk_sides store₀ work₀ w₀) ∙ sides_length w₀.start_locs work₀
+  module _ (h : i < n) {q : Location} (eq : q ≡ location (at 5 y.work.now i)) {z : Walker} {r : Result Unit Refusal} (R : Steps (corner_toward (full y) y.rect (walk y) p q) y z r) where
+    one : Steps (corner_toward (full x) x.rect (walk y) p q) x z r
+    one = after (λ full rect path. corner_toward full rect (walk y) p q) I.same R
 
-  module _ (h : i < w₀.start_locs) {q : Location} (eq : q ≡ location (at 5 work i)) {store' : List ℤ} {work' : List ℕ} {r : Step}
-      (R : Stepped (corner_toward (room store) rect (walk_of store work w) p q) store' work' r) where
-    next_side : drop i (walk_of store₀ work₀ w₀).start_locs ≡ q ∷ drop (i + 1) (walk_of store₀ work₀ w₀).start_locs
+    next_side : drop i (walk x).start_locs ≡ q ∷ drop (i + 1) (walk x).start_locs
     next_side =
-        let n = sides_kept in
-        let e : get_or (walk_of store₀ work₀ w₀).start_locs i Inside ≡ q = ap (λ (l : List Location). get_or l i Inside) (sym I.locs ∙ walk_sides store work w) ∙ side_at w.start_locs work i (omega arith) ∙ sym eq in
-        let k : length (walk_of store₀ work₀ w₀).start_locs ≡ w₀.start_locs = ap length (walk_sides store₀ work₀ w₀) ∙ sides_length w₀.start_locs work₀ in
-        rw (add-one i) (drop-cons (walk_of store₀ work₀ w₀).start_locs i Inside (omega arith) ∙ ap (λ (x : Location). x ∷ drop (suc i) (walk_of store₀ work₀ w₀).start_locs) e)
+        let e : get_or (walk x).start_locs i Inside ≡ q = ap (λ (l : List Location). get_or l i Inside) (sym I.locs ∙ walk_sides y) ∙ side_at y.state.start_locs y.work.now i (omega (arith, I.count)) ∙ sym eq in
+        let k = count_sides x in
+        rw (add-one i) (drop-cons (walk x).start_locs i Inside (omega (arith, I.end)) ∙ ap (λ (l : Location). l ∷ drop (suc i) (walk x).start_locs) e)
 
-    same_corner : corner_toward (room store) rect (walk_of store work w) p q ≡ corner_toward (room store₀) rect (walk_of store work w) p q
-    same_corner = roomed I.going.store_kept (λ n. corner_toward n rect (walk_of store work w) p q)
+    now_next : (retrace (full x) x.rect (walk y) p (q ∷ drop (i + 1) (walk x).start_locs) >>= last_corner (full x) x.rect first) ≡ back
+    now_next = ap (λ (l : List Location). retrace (full x) x.rect (walk y) p l >>= last_corner (full x) x.rect first) (sym next_side) ∙ I.goal
 
-    now_next : (retrace (room store₀) rect (walk_of store work w) p (q ∷ drop (i + 1) (walk_of store₀ work₀ w₀).start_locs) >>= last_corner (room store₀) rect first)
-        ≡ (retrace (room store₀) rect (walk_of store₀ work₀ w₀) p₀ (walk_of store₀ work₀ w₀).start_locs >>= last_corner (room store₀) rect first)
-    now_next = ap (λ (l : List Location). retrace (room store₀) rect (walk_of store work w) p l >>= last_corner (room store₀) rect first) (sym next_side) ∙ I.going.goal
-
-    pub retrace_again : (v : WalkState) → r ≡ Walked v → length store' ≡ length store → length work' ≡ length work → Retracing rect first store₀ work₀ w₀ p₀ store' work' v q (i + 1)
-    retrace_again v e a z =
-        let t : ok (walk_of store' work' v) ≡ corner_toward (room store₀) rect (walk_of store work w) p q = walked_is R e ∙ same_corner in
+    pub retrace_again : {u : Unit} → r ≡ Ok u → Retracing first x p₀ n z q (i + 1)
+    retrace_again e =
+        let t : ok (walk z) ≡ corner_toward (full x) x.rect (walk y) p q = done_is one e in
+        let l : (walk z).start_locs ≡ (walk x).start_locs = toward_locs (full x) x.rect (walk y) p q t ∙ I.locs in
         record {
-          going = record {
-            goal =
-                ap (λ (x : Try (Walk × Location)). x >>= last_corner (room store₀) rect first) (back_go (room store₀) rect (walk_of store work w) p q (drop (i + 1) (walk_of store₀ work₀ w₀).start_locs) t) ∙ now_next;
-            fits = R.fits v e;
-            store_kept = a ∙ I.going.store_kept;
-            work_kept = z ∙ I.going.work_kept;
-          };
-          locs = toward_locs (room store₀) rect (walk_of store work w) p q t ∙ I.locs;
+          goal = ap (λ (w : Try (Walk × Location)). w >>= last_corner (full x) x.rect first) (back_go (full x) x.rect (walk y) p q (drop (i + 1) (walk x).start_locs) t) ∙ now_next;
+          same = one.same;
+          locs = l;
+          count = sym (count_sides z) ∙ ap length l ∙ count_sides x ∙ sym I.end;
+          end = I.end;
           here = omega arith;
         }
 
-    pub retrace_lost : (n : Refusal) → r ≡ Refused n
-        → Stepped (retrace (room store₀) rect (walk_of store₀ work₀ w₀) p₀ (walk_of store₀ work₀ w₀).start_locs >>= last_corner (room store₀) rect first) store' work' r
-    retrace_lost n e =
-        rw e
-        (step_refused
-        (on_refuse (last_corner (room store₀) rect first) (back_stop (room store₀) rect (walk_of store work w) p q (drop (i + 1) (walk_of store₀ work₀ w₀).start_locs) (refused_is R e ∙ same_corner))
-        ∙ now_next))
+    pub retrace_lost : {why : Refusal} → r ≡ Err why → Steps back x z (Err why)
+    retrace_lost e = record {
+      same = one.same;
+      is = on_refuse (last_corner (full x) x.rect first) (back_stop (full x) x.rect (walk y) p q (drop (i + 1) (walk x).start_locs) (refused_is one e)) ∙ now_next;
+    }
 
-  pub retrace_done : w₀.start_locs ≤ i → {store' : List ℤ} {work' : List ℕ} {r : Step} → Stepped (corner_toward (room store) rect (walk_of store work w) p first) store' work' r
-      → Stepped (retrace (room store₀) rect (walk_of store₀ work₀ w₀) p₀ (walk_of store₀ work₀ w₀).start_locs >>= last_corner (room store₀) rect first) store' work' r
+  pub retrace_done : n ≤ i → {z : Walker} {r : Result Unit Refusal} → Steps (corner_toward (full y) y.rect (walk y) p first) y z r → Steps back x z r
   unfolding retrace
   retrace_done h R =
-      let k : length (walk_of store₀ work₀ w₀).start_locs ≡ i = ap length (walk_sides store₀ work₀ w₀) ∙ sides_length w₀.start_locs work₀ ∙ omega (arith, I.here) in
-      let d : drop i (walk_of store₀ work₀ w₀).start_locs ≡ [] = ap (λ (n : ℕ). drop n (walk_of store₀ work₀ w₀).start_locs) (sym k) ∙ drop-length (walk_of store₀ work₀ w₀).start_locs in
-      step_as R
-      (roomed I.going.store_kept (λ n. corner_toward n rect (walk_of store work w) p first)
-      ∙ ap (λ (l : List Location). retrace (room store₀) rect (walk_of store work w) p l >>= last_corner (room store₀) rect first) (sym d)
-      ∙ I.going.goal)
+      let k : length (walk x).start_locs ≡ i = count_sides x ∙ omega (arith, I.here, I.end) in
+      let d : drop i (walk x).start_locs ≡ [] = ap (λ (n : ℕ). drop n (walk x).start_locs) (sym k) ∙ drop-length (walk x).start_locs in
+      named (after (λ full rect path. corner_toward full rect (walk y) p first) I.same R)
+      (ap (λ (l : List Location). retrace (full x) x.rect (walk y) p l >>= last_corner (full x) x.rect first) (sym d) ∙ I.goal)

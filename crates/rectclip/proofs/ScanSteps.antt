@@ -1,10 +1,9 @@
 -- One pass of `point_in_polygon` from a vertex that is not skipped, way by way. Assumes nothing.
 use Rattle.std.specs.Prelude.{if◌then◌else◌}
-use mathlib.Core.Path.{◌≡◌, refl, sym, ap, ◌∙◌, subst}
+use mathlib.Core.Path.{◌≡◌, refl, sym, ap, ◌∙◌}
 use mathlib.Core.Bool.{Bool, true, false, not, ◌&&◌, ◌||◌, beq}
 use mathlib.Core.List.{List}
-use Prim.Native.Nat.{ℕ, ◌+◌, ◌-◌, ◌/◌, ◌≤◌, ◌<◌}
-use native.Mathlib.Omega.{arith}
+use Prim.Native.Nat.{ℕ, ◌+◌, ◌-◌, ◌/◌}
 use lib.Dec.{eqb}
 use lib.IntN.{ℤ, pos}
 use lib.ListN.{length}
@@ -15,7 +14,7 @@ use Rattle.plane.specs.Signs.{cross_product_sign}
 use Rattle.plane.specs.Polygon.{before_idx, at_vertex}
 use Rattle.plane.specs.Polygon as polygon
 use Rattle.plane.specs.declared.point.Point64.{Point64}
-use Rattle.rectclip.specs.Scanned.{step_of, passing_of, line_of, passed_of, level_of, Scanning}
+use Rattle.rectclip.specs.Scanned.{step_of, passing_of, line_of, passed_of, level_of}
 use Rattle.rectclip.specs.declared.polygon.Scan.{Scan}
 use Rattle.rectclip.specs.declared.polygon.ScanStep.{ScanStep}
 use Rattle.rectclip.specs.declared.polygon.ScanStep.TheVariants.{OnEdge, Stop, Again}
@@ -76,21 +75,3 @@ module _ (pt : Point64) (c : List ℤ) (first : ℕ) (s : Scan) (i : ℕ) where
   pub pass_is : {p q : Point64} {how : Passing} {r : ScanStep} → q ≡ curr → p ≡ prev → eq_z q.y pt.y ≡ false → how ≡ passing_of pt p q s.is_above → r ≡ passed_of s i how → step_of r ≡ whole
   pass_is f g h k e =
       ap step_of (e ∙ ap (passed_of s i) (k ∙ λ j. passing_of pt (g j) (f j) s.is_above)) ∙ pass_step (sym (ap (λ (q : Point64). eq_z q.y pt.y) f) ∙ h)
-
-  -- the scan stays on the vertices
-  module _ (n : ℕ) (h : i < n) (b : s.val ≤ 1) where
-    level_in : (on z : Bool) → Scanning n (if on then OnEdge else if z then Stop (record { curr_idx = i + 1; is_above = s.is_above; wrap_to_start = s.wrap_to_start; val = s.val }) else Again (record { curr_idx = i + 1; is_above = s.is_above; wrap_to_start = s.wrap_to_start; val = s.val }))
-    level_in true z = omega arith
-    level_in false true = record { index = omega arith; bit = b }
-    level_in false false = record { index = omega arith; bit = b }
-
-    pass_in : (how : Passing) → Scanning n (passed_of s i how)
-    pass_in Through = omega arith
-    pass_in Aside = record { index = omega arith; bit = b }
-    pass_in Across = record { index = omega arith; bit = omega arith }
-
-    pub level_within : (on : Bool) {r : ScanStep} → r ≡ level_of s i first on → Scanning n r
-    level_within on e = subst (Scanning n) (sym e) (level_in on (eqb (i + 1) first))
-
-    pub pass_within : (how : Passing) {r : ScanStep} → r ≡ passed_of s i how → Scanning n r
-    pass_within how e = subst (Scanning n) (sym e) (pass_in how)

@@ -3,7 +3,7 @@ use Rattle.std.specs.Prelude.{if◌then◌else◌}
 use mathlib.Core.Path.{◌≡◌, refl, sym, ◌∙◌, ap}
 use mathlib.Core.Bool.{Bool, true, false, cond}
 use mathlib.Core.List.{List, [], ◌∷◌}
-use Prim.Native.Nat.{ℕ, suc, ◌+◌, ◌*◌, ◌/◌, ◌<◌, ◌≤◌}
+use Prim.Native.Nat.{ℕ, suc, ◌+◌, ◌*◌, ◌/◌, ◌<◌, ◌≤◌, max}
 use native.Mathlib.Omega.{arith}
 use native.Mathlib.Numerals.{add-one}
 use native.Mathlib.Decide.{ℕ_discrete}
@@ -21,7 +21,7 @@ use Rattle.plane.specs.Points.{origin, pt_at, points_of}
 use Rattle.plane.specs.Rectangle.{beyond, beyond_or_on}
 use Rattle.reference.specs.Walk.{Walk, add, next_side, next_outside, next_inside, get_next_location}
 use Rattle.rectclip.specs.declared.next.Line.{Line}
-use Rattle.rectclip.specs.Moving.{past, past_line, exit_side, LineOf, scanned}
+use Rattle.rectclip.specs.Moving.{past, past_line, exit_side, LineOf, placed}
 use Rattle.rectclip.proofs.Coordinates.{points_at, points_length}
 
 -- ---- how many entries from i on pass a test
@@ -51,6 +51,11 @@ line_at l path i h hi =
 -- ---- the scan
 pub record Scanning (path : List ℤ) (line : Line) (from i : ℕ) : Type 0 where
   pub goal : i + lead (past_line line) (drop i (points_of path)) ≡ from + lead (past_line line) (drop from (points_of path))
+  pub forth : from ≤ i
+  pub here : i ≤ max from (length path / 2)
+
+pub scan_starts : {path : List ℤ} {line : Line} {from : ℕ} → Scanning path line from from
+scan_starts = record { goal = refl; forth = omega arith; here = omega arith }
 
 module _ {path : List ℤ} {line : Line} {from i : ℕ} (I : Scanning path line from i) where
   module _ (o : line.offset ≤ 1) (h : i < length path / 2) {v : ℤ} (ev : v ≡ get_or path (2 * i + line.offset) (pos 0)) {b : Bool} (eb : b ≡ past line v) where
@@ -61,10 +66,10 @@ module _ {path : List ℤ} {line : Line} {from i : ℕ} (I : Scanning path line 
     scan_stops e = sym (lead_off (past_line line) (points_of path) i origin (rw (points_length path) h) (sym told ∙ e)) ∙ I.goal
 
     pub scan_again : b ≡ true → Scanning path line from (i + 1)
-    scan_again e = record { goal = sym (lead_on (past_line line) (points_of path) i origin (rw (points_length path) h) (sym told ∙ e)) ∙ I.goal }
+    scan_again e = record { goal = sym (lead_on (past_line line) (points_of path) i origin (rw (points_length path) h) (sym told ∙ e)) ∙ I.goal; forth = omega (arith, I.forth); here = omega arith }
 
-  pub scan_ends : length path / 2 ≤ i → i ≡ from + lead (past_line line) (drop from (points_of path))
-  scan_ends h = sym (lead_end (past_line line) (points_of path) i (rw (points_length path) h)) ∙ I.goal
+  pub scan_ends : length path / 2 ≤ i → {r : ℕ} → r ≡ max from (length path / 2) → r ≡ from + lead (past_line line) (drop from (points_of path))
+  scan_ends h e = let f : max from (length path / 2) ≡ i = omega (arith, I.forth, I.here) in e ∙ f ∙ sym (lead_end (past_line line) (points_of path) i (rw (points_length path) h)) ∙ I.goal
 
 -- ---- where a point is, seen from a side
 module _ (rect : Rect64) (s : Location) (p : Point64) {x : Location} (ex : x ≡ opposite s) {a : Bool} (ea : a ≡ beyond_or_on rect x p) where
@@ -100,12 +105,12 @@ module _ {rect : Rect64} {loc : Location} {line : Line} (D : LineOf rect loc lin
   there : i ≡ from + lead (beyond_or_on rect loc) (drop from (points_of path))
   there = e ∙ ap (λ (k : ℕ). from + k) (lead_as (past_line line) (beyond_or_on rect loc) (drop from (points_of path)) D.test)
 
-  pub outside_past : length path / 2 ≤ i → (w : Walk) → scanned w (record { loc = loc; i = i }) ≡ next_outside rect (points_of path) w loc from
+  pub outside_past : length path / 2 ≤ i → (w : Walk) → placed w (record { loc = loc; i = i }) ≡ next_outside rect (points_of path) w loc from
   unfolding next_outside
   outside_past h w = rw (← there, le-leb (length (points_of path)) i (rw (points_length path) h)) refl
 
   pub outside_met : i < length path / 2 → {p : Point64} → p ≡ pt_at (points_of path) i → {q : Location} → q ≡ next_side rect loc p
-      → (w : Walk) → scanned w (record { loc = q; i = i }) ≡ next_outside rect (points_of path) w loc from
+      → (w : Walk) → placed w (record { loc = q; i = i }) ≡ next_outside rect (points_of path) w loc from
   unfolding next_outside
   outside_met h ep eq w = rw (eq, ep, ← there, lt-leb (length (points_of path)) i (rw (points_length path) h)) refl
 

@@ -1,8 +1,10 @@
 -- The inner loop of `tidy_edges`, over the work list, stops where the definition's does. Assumes nothing.
+use Rattle.std.specs.Prelude.{Option, None, Some}
+use Rattle.std.specs.Option.{IsSome}
 use mathlib.Core.Path.{◌≡◌, refl, sym, ◌∙◌, ap}
 use mathlib.Core.Bool.{Bool, true, false, not, ◌&&◌}
 use mathlib.Core.List.{List}
-use Prim.Native.Nat.{ℕ, ◌+◌, ◌<◌, ◌≤◌}
+use Prim.Native.Nat.{ℕ, ◌+◌, ◌<◌, ◌≤◌, max}
 use native.Mathlib.Omega.{arith}
 use native.Mathlib.Numerals.{add-one}
 use lib.ListN.{length, get_or, drop, drop_of_length-le}
@@ -12,10 +14,11 @@ use borrow.Author.Tests.{eq-eqb, ltb-true, ltb-false}
 use Rattle.plane.specs.Basics.{none}
 use Rattle.reference.specs.Arena.{Arena, edge_list}
 use Rattle.reference.specs.Tidy.{is_stub, seek}
-use Rattle.rectclip.specs.declared.arena.Sizes.{Sizes}
-use Rattle.rectclip.specs.Arenas.{arena_at, Holds}
+use Rattle.rectclip.specs.declared.arena.Arena as lent
+use Rattle.rectclip.specs.Arenas.{mark}
+use Rattle.rectclip.specs.Changes.{arena_of}
 use Rattle.rectclip.specs.Turns.{is_live, Sought}
-use Rattle.rectclip.proofs.Spare.{list_length}
+use Rattle.rectclip.proofs.Changes.{list_long}
 
 module _ (a : Arena) (l : List ℕ) (j : ℕ) (h : j < length l) where
   seek_here : is_live a (get_or l j none) ≡ true → seek a j (drop j l) ≡ j
@@ -55,28 +58,38 @@ sought_there {a} {e} {j} {k} z = record { is = sym (go (ltb k (length l)) refl);
     go true t = seek_here a l k (ltb-true k (length l) t) (z.live (ltb-true k (length l) t))
     go false t = seek_end a l k (ltb-false k (length l) t)
 
-pub record SeekingOn (m : List ℕ) (s : Sizes) (e from j : ℕ) : Type 0 where
-  pub goal : seek (arena_at m s) j (drop j (edge_list (arena_at m s) e)) ≡ seek (arena_at m s) from (drop from (edge_list (arena_at m s) e))
+-- the entry where `seek` stops within the list is a node
+pub entry_some : (m : lent.Arena) (e from j : ℕ) (x : Option ℕ) → e < 8 → Sought (arena_of m) e from j → j < get_or m.sizes.lens e 0 → mark x ≡ get_or (edge_list (arena_of m) e) j none → IsSome x
+entry_some m e from j None k z h w = absurd (live_some (arena_of m) (get_or (edge_list (arena_of m) e) j none) (z.live (omega (arith, list_long m e k))) (sym w))
+entry_some m e from j (Some v) k z h w = refl
 
-module _ {m : List ℕ} {s : Sizes} {e from j : ℕ} (I : SeekingOn m s e from j) (h : Holds m s) (k : e < 8) where
-  module _ (z : j < get_or s.lens e 0) (x : ℕ) (g : x ≡ get_or (edge_list (arena_at m s) e) j none) (b : Bool) (w : b ≡ is_live (arena_at m s) x) where
-    inside : j < length (edge_list (arena_at m s) e)
-    inside = omega (arith, list_length m s h.eight e k)
+-- at the head of the loop, at position j
+pub record SeekingOn (m : lent.Arena) (e from j : ℕ) : Type 0 where
+  pub goal : seek (arena_of m) j (drop j (edge_list (arena_of m) e)) ≡ seek (arena_of m) from (drop from (edge_list (arena_of m) e))
+  pub most : j ≤ max from (get_or m.sizes.lens e 0)
 
-    live : is_live (arena_at m s) (get_or (edge_list (arena_at m s) e) j none) ≡ b
-    live = ap (is_live (arena_at m s)) (sym g) ∙ sym w
+module _ {m : lent.Arena} {e from j : ℕ} (I : SeekingOn m e from j) (k : e < 8) where
+  module _ (z : j < get_or m.sizes.lens e 0) (x : ℕ) (g : x ≡ get_or (edge_list (arena_of m) e) j none) (b : Bool) (w : b ≡ is_live (arena_of m) x) where
+    inside : j < length (edge_list (arena_of m) e)
+    inside = omega (arith, list_long m e k)
 
-    pub seeking_again : b ≡ false → SeekingOn m s e from (j + 1)
-    seeking_again t = record { goal = sym (seek_on (arena_at m s) (edge_list (arena_at m s) e) j inside (live ∙ t)) ∙ I.goal }
+    live : is_live (arena_of m) (get_or (edge_list (arena_of m) e) j none) ≡ b
+    live = ap (is_live (arena_of m)) (sym g) ∙ sym w
 
-    pub seeking_found : b ≡ true → Sought (arena_at m s) e from j
+    pub seeking_again : b ≡ false → SeekingOn m e from (j + 1)
+    seeking_again t = record { goal = sym (seek_on (arena_of m) (edge_list (arena_of m) e) j inside (live ∙ t)) ∙ I.goal; most = omega arith }
+
+    pub seeking_found : b ≡ true → Sought (arena_of m) e from j
     seeking_found t = record {
-      is = sym (seek_here (arena_at m s) (edge_list (arena_at m s) e) j inside (live ∙ t)) ∙ I.goal;
+      is = sym (seek_here (arena_of m) (edge_list (arena_of m) e) j inside (live ∙ t)) ∙ I.goal;
       live = λ _. live ∙ t;
     }
 
-  pub seeking_end : get_or s.lens e 0 ≤ j → Sought (arena_at m s) e from j
+  pub seeking_end : get_or m.sizes.lens e 0 ≤ j → Sought (arena_of m) e from j
   seeking_end z = record {
-    is = sym (seek_end (arena_at m s) (edge_list (arena_at m s) e) j (omega (arith, list_length m s h.eight e k))) ∙ I.goal;
-    live = λ l. absurd (omega (arith, list_length m s h.eight e k));
+    is = sym (seek_end (arena_of m) (edge_list (arena_of m) e) j (omega (arith, list_long m e k))) ∙ I.goal;
+    live = λ l. absurd (omega (arith, list_long m e k));
   }
+
+  pub seeking_out : from ≤ j → get_or m.sizes.lens e 0 ≤ j → (r : ℕ) → r ≡ max from (get_or m.sizes.lens e 0) → Sought (arena_of m) e from r
+  seeking_out h z r w = let there : r ≡ j = omega (arith, I.most) in rw there (seeking_end z)

@@ -4,16 +4,16 @@ use Rattle.std.specs.Prelude.{if◌then◌else◌}
 use mathlib.Core.Path.{◌≡◌, refl, sym, ◌∙◌, ap}
 use mathlib.Core.Bool.{Bool, true, false}
 use mathlib.Core.List.{List, [], ◌∷◌, map}
-use Prim.Native.Nat.{ℕ, zero, suc, ◌+◌, ◌<◌, ◌≤◌}
+use Prim.Native.Nat.{ℕ, suc, ◌+◌, ◌<◌, ◌≤◌}
 use native.Mathlib.Omega.{arith}
 use native.Mathlib.Numerals.{add-one}
-use lib.Dec.{ltb, leb, leb→le}
+use lib.Dec.{ltb}
 use lib.IntN.{ℤ, pos, negsuc, ◌+ℤ◌, ◌-ℤ◌}
 use lib.ListN.{length, get_or, drop, length-map, length-drop, get_or-map}
 use lib.Seq.{drop-cons}
 use lib.Signed.{lt_z}
 use Rattle.integers.specs.Ring.{var, con, ◌⊕◌, ◌⊖◌, ring}
-use Rattle.integers.specs.Tests.{T_of, ltZ_sub, eq_z, eqZ_true}
+use Rattle.integers.specs.Tests.{ltZ_sub, eq_z, eqZ_true}
 use Rattle.plane.specs.declared.location.Location.{Location}
 use Rattle.plane.specs.declared.location.Location.TheVariants.{Inside}
 use Rattle.plane.specs.Locations.{side_number, step_of, steps_of, start_locs_are_clockwise}
@@ -77,14 +77,6 @@ pub record Counting (work : List ℕ) (n : ℕ) (t : Turns) (i : ℕ) : Type 0 w
   pub downs : t.downs ≤ i
   pub here : i ≤ n
 
-pub count_start : (work : List ℕ) (n : ℕ) → Counting work n (record { ups = 0; downs = 0 }) 0
-count_start work n = record {
-  goal = ring (steps_of (sides n work) ∷ []) ((con (pos 0) ⊖ con (pos 0)) ⊕ var 0) (var 0) tt;
-  ups = omega arith;
-  downs = omega arith;
-  here = omega arith;
-}
-
 up_le : (x y : Bool) (t : Turns) (i : ℕ) → t.ups ≤ i → (if x then record { ups = t.ups + 1; downs = t.downs } else if y then record { ups = t.ups; downs = t.downs + 1 } else t).ups ≤ i + 1
 up_le true y t i h = omega arith
 up_le false true t i h = omega arith
@@ -116,21 +108,3 @@ module _ {work : List ℕ} {n : ℕ} {t : Turns} {i : ℕ} (I : Counting work n 
       let s : steps_of (drop i (sides n work)) ≡ pos 0 = steps_short (drop i (sides n work)) (rw (length-drop i (sides n work), sides_length n work) (omega arith)) in
       let e : net t ≡ steps_of (sides n work) = ring (pos t.ups ∷ pos t.downs ∷ []) (var 0 ⊖ var 1) ((var 0 ⊖ var 1) ⊕ con (pos 0)) tt ∙ (rw s at I.goal) in
       sym (ltZ_sub (pos t.downs) (pos t.ups)) ∙ ap (lt_z (pos 0)) e
-
--- a side's number
-pub number_small : (loc : Location) → side_number loc ≤ 4
-number_small loc = leb→le (side_number loc) 4 (T_of (each (λ l. leb (side_number l) 4) refl loc))
-
--- the side of a number that was read
-pub location_is : (k : ℕ) {m n : ℕ} → m ≡ n → m ≡ k → location k ≡ location n
-location_is k e f = ap location (sym f ∙ e)
-
-location_last : (n : ℕ) → 4 ≤ n → Inside ≡ location n
-location_last zero h = absurd (omega arith)
-location_last (suc zero) h = absurd (omega arith)
-location_last (suc (suc zero)) h = absurd (omega arith)
-location_last (suc (suc (suc zero))) h = absurd (omega arith)
-location_last (suc (suc (suc (suc n)))) h = refl
-
-pub location_rest : {m n : ℕ} → m ≡ n → 4 ≤ m → Inside ≡ location n
-location_rest {m} {n} e h = location_last n (omega arith)

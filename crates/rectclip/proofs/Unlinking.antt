@@ -1,49 +1,37 @@
 -- A node taken out of its ring over the work list is the definition's `unlink`, and its neighbours are handed back. Assumes nothing.
-use mathlib.Core.Path.{◌≡◌, refl, sym, ◌∙◌, ap}
-use mathlib.Core.List.{List}
+use Rattle.std.specs.Prelude.{None, Some}
+use mathlib.Core.Path.{◌≡◌, refl, sym, ◌∙◌}
 use mathlib.Core.Bool.{true, false}
-use Prim.Native.Nat.{ℕ}
+use Prim.Native.Nat.{ℕ, ◌<◌}
 use lib.Dec.{eqb}
 use borrow.Author.Tests.{eq-eqb, ne_eqb}
-use Rattle.plane.specs.Basics.{none}
-use Rattle.reference.specs.Arena.{Arena, next_of, prev_of, set_next, set_prev, unlink}
-use Rattle.rectclip.specs.declared.arena.Sizes.{Sizes}
-use Rattle.rectclip.specs.Arenas.{arena_at, Holds, Leaves}
+use Rattle.reference.specs.Arena.{next_of, prev_of, set_next, set_prev, unlink}
+use Rattle.rectclip.specs.declared.arena.Arena as lent
+use Rattle.rectclip.specs.Changes.{arena_of, Leaves}
 use Rattle.rectclip.specs.Rings.{Unlinked}
+use Rattle.rectclip.proofs.Changes.{leaves_same, leaves_renamed, then_leaves}
 
-pub same_arena : {m : List ℕ} {s : Sizes} → Holds m s → Leaves m m s (arena_at m s)
-same_arena h = record { is = refl; holds = h; same = refl }
-
--- a second change on top of a first: `f` is the second, as the definition has it
-pub then_leaves : {m m₁ m₂ : List ℕ} {s : Sizes} {b : Arena} (f : Arena → Arena) → Leaves m m₁ s b → Leaves m₁ m₂ s (f (arena_at m₁ s)) → Leaves m m₂ s (f b)
-then_leaves f k l = record { is = l.is ∙ ap f k.is; holds = l.holds; same = l.same ∙ k.same }
-
--- the same arena under another name
-pub renamed : {m m' : List ℕ} {s : Sizes} {b c : Arena} → Leaves m m' s b → b ≡ c → Leaves m m' s c
-renamed l e = record { is = l.is ∙ e; holds = l.holds; same = l.same }
-
-module _ {m : List ℕ} {s : Sizes} (op next : ℕ) (h : Holds m s) (n : next ≡ next_of (arena_at m s) op) where
+module _ {m : lent.Arena} (op next : ℕ) (n : next ≡ next_of (arena_of m) op) where
   -- the node is alone in its ring
   module _ (t : next ≡ op) where
-    alone : eqb (next_of (arena_at m s) op) op ≡ true
-    alone = eq-eqb _ _ (sym n ∙ t)
-
-    left_alone : Leaves m m s (unlink (arena_at m s) op)
+    left_alone : Leaves m m (unlink (arena_of m) op)
     unfolding unlink
-    left_alone = rw alone (same_arena h)
+    left_alone = rw (eq-eqb (next_of (arena_of m) op) op (sym n ∙ t)) leaves_same
 
-    pub unlinked_alone : Unlinked m m s op (record { prev = none; next = none })
-    unlinked_alone = record { leaves = left_alone; next = rw alone refl; prev = rw alone refl }
+    pub unlinked_alone : Unlinked m m op None
+    unlinked_alone =
+        let alone : eqb (next_of (arena_of m) op) op ≡ true = eq-eqb _ _ (sym n ∙ t) in
+        record { leaves = left_alone; next = rw alone refl; prev = rw alone refl; within = tt }
 
   -- its neighbours are joined
-  module _ (t : next ≡ op → ⊥) (prev : ℕ) (p : prev ≡ prev_of (arena_at m s) op) {m₁ m₂ : List ℕ}
-      (k : Leaves m m₁ s (set_next (arena_at m s) prev next)) (l : Leaves m₁ m₂ s (set_prev (arena_at m₁ s) next prev)) where
-    others : eqb (next_of (arena_at m s) op) op ≡ false
+  module _ (t : next ≡ op → ⊥) (prev : ℕ) (p : prev ≡ prev_of (arena_of m) op) {m₁ m₂ : lent.Arena}
+      (k : Leaves m m₁ (set_next (arena_of m) prev next)) (l : Leaves m₁ m₂ (set_prev (arena_of m₁) next prev)) where
+    others : eqb (next_of (arena_of m) op) op ≡ false
     others = ne_eqb _ _ (λ e. t (n ∙ e))
 
-    joined : Leaves m m₂ s (unlink (arena_at m s) op)
+    joined : Leaves m m₂ (unlink (arena_of m) op)
     unfolding unlink
-    joined = rw others (renamed (then_leaves (λ a. set_prev a next prev) k l) (λ i. set_prev (set_next (arena_at m s) (p i) (n i)) (n i) (p i)))
+    joined = rw others (leaves_renamed (then_leaves (λ _ _ a. set_prev a next prev) k l) (λ i. set_prev (set_next (arena_of m) (p i) (n i)) (n i) (p i)))
 
-    pub unlinked_joined : Unlinked m m₂ s op (record { prev = prev; next = next })
-    unlinked_joined = record { leaves = joined; next = rw others n; prev = rw others p }
+    pub unlinked_joined : prev < m.sizes.nodes → next < m.sizes.nodes → Unlinked m m₂ op (Some (record { prev = prev; next = next }))
+    unlinked_joined h g = record { leaves = joined; next = rw others n; prev = rw others p; within = (h, g) }

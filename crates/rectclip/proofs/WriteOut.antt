@@ -12,10 +12,9 @@ use borrow.Author.Tests.{eq-eqb, ne_eqb}
 use Rattle.plane.specs.declared.point.Point64.{Point64}
 use Rattle.plane.specs.Basics.{none, upwards}
 use Rattle.reference.specs.Arena.{Arena, pt_of, next_of, result_of}
-use Rattle.rectclip.specs.declared.arena.Sizes.{Sizes}
+use Rattle.rectclip.specs.declared.arena.Arena as lent
 use Rattle.rectclip.specs.declared.paths.Counts.{Counts}
-use Rattle.rectclip.specs.Arenas.{arena_at}
-use Rattle.rectclip.specs.Stored.{points_in}
+use Rattle.rectclip.specs.Changes.{arena_of, pts_of}
 use Rattle.rectclip.specs.Paths.{nodes_from, nodes_of, nodes_read, all_nodes, coordinates_at, Reading, Read, Writing, Written, nothing_yet}
 use Rattle.rectclip.proofs.Counting.{read_none, read_some, read_cons}
 
@@ -52,38 +51,38 @@ nodes_most (suc left) a start curr =
     ]
 
 -- ---- one result
-module _ {store : List ℤ} {m : List ℕ} {s : Sizes} {c : List ℤ} {l : List ℕ} {so_far : Counts} (i : ℕ) (x : Writing store m s c l so_far (nodes_read s.nodes (arena_at m s) (i ∷ [])))
-    (start : ℕ) (e : start ≡ result_of (arena_at m s) i) where
-  pub write_none : start ≡ none → Written c c l l so_far so_far (points_in store s.nodes) (nodes_read s.nodes (arena_at m s) (i ∷ []))
+module _ (m : lent.Arena) {c : List ℤ} {l : List ℕ} {so_far : Counts} (i : ℕ) (x : Writing c l so_far (nodes_read m.sizes.nodes (arena_of m) (i ∷ [])))
+    (start : ℕ) (e : start ≡ result_of (arena_of m) i) where
+  pub write_none : start ≡ none → Written c c l l so_far so_far (pts_of m) (nodes_read m.sizes.nodes (arena_of m) (i ∷ []))
   unfolding coordinates_at
-  write_none h = rw (read_none s.nodes (arena_at m s) i start e h) (record { coordinates = refl; lengths = refl; paths = omega arith; points = omega arith })
+  write_none h = rw (read_none m.sizes.nodes (arena_of m) i start e h) (record { coordinates = refl; lengths = refl; paths = omega arith; points = omega arith })
 
   module _ (h : start ≡ none → ⊥) where
-    one : nodes_read s.nodes (arena_at m s) (i ∷ []) ≡ nodes_of s.nodes (arena_at m s) start ∷ []
-    one = read_some s.nodes (arena_at m s) i start e h
+    one : nodes_read m.sizes.nodes (arena_of m) (i ∷ []) ≡ nodes_of m.sizes.nodes (arena_of m) start ∷ []
+    one = read_some m.sizes.nodes (arena_of m) i start e h
 
-    alone : all_nodes (nodes_of s.nodes (arena_at m s) start ∷ []) ≡ nodes_of s.nodes (arena_at m s) start
-    alone = append-nil (nodes_of s.nodes (arena_at m s) start)
+    alone : all_nodes (nodes_of m.sizes.nodes (arena_of m) start ∷ []) ≡ nodes_of m.sizes.nodes (arena_of m) start
+    alone = append-nil (nodes_of m.sizes.nodes (arena_of m) start)
 
-    points_are : length (all_nodes (nodes_read s.nodes (arena_at m s) (i ∷ []))) ≡ length (nodes_of s.nodes (arena_at m s) start)
+    points_are : length (all_nodes (nodes_read m.sizes.nodes (arena_of m) (i ∷ []))) ≡ length (nodes_of m.sizes.nodes (arena_of m) start)
     points_are = ap (λ (p : List (List ℕ)). length (all_nodes p)) one ∙ ap length alone
 
-    pub write_room : Reading store m s c so_far.points (nodes_of s.nodes (arena_at m s) start)
-    write_room = record { drawn = x.drawn; holds = x.holds; room = omega (arith, x.points, points_are) }
+    pub write_room : Reading c so_far.points (nodes_of m.sizes.nodes (arena_of m) start)
+    write_room = record { room = omega (arith, x.points, points_are) }
 
     pub write_length : so_far.paths < length l
     write_length = omega (arith, x.paths, ap length one)
 
-    pub write_small : (end : ℕ) → end ≡ so_far.points + length (nodes_of s.nodes (arena_at m s) start) → end - so_far.points < 4294967296
+    pub write_small : (end : ℕ) → end ≡ so_far.points + length (nodes_of m.sizes.nodes (arena_of m) start) → end - so_far.points < 4294967296
     unfolding nodes_of
-    write_small end g = omega (arith, nodes_most s.nodes (arena_at m s) start (next_of (arena_at m s) start), x.holds.nodes, x.holds.room.small)
+    write_small end g = omega (arith, nodes_most m.sizes.nodes (arena_of m) start (next_of (arena_of m) start), m.holds.nodes, m.holds.room.small)
 
-    pub write_one : {c' : List ℤ} (end : ℕ) → Read c c' so_far.points end (points_in store s.nodes) (nodes_of s.nodes (arena_at m s) start)
-        → Written c c' l (set l so_far.paths (end - so_far.points)) so_far (record { paths = so_far.paths + 1; points = end }) (points_in store s.nodes) (nodes_read s.nodes (arena_at m s) (i ∷ []))
+    pub write_one : {c' : List ℤ} (end : ℕ) → Read c c' so_far.points end (pts_of m) (nodes_of m.sizes.nodes (arena_of m) start)
+        → Written c c' l (set l so_far.paths (end - so_far.points)) so_far (record { paths = so_far.paths + 1; points = end }) (pts_of m) (nodes_read m.sizes.nodes (arena_of m) (i ∷ []))
     write_one end r =
-        let gap : end - so_far.points ≡ length (nodes_of s.nodes (arena_at m s) start) = omega (arith, r.next) in
+        let gap : end - so_far.points ≡ length (nodes_of m.sizes.nodes (arena_of m) start) = omega (arith, r.next) in
         rw one (record {
-          coordinates = r.is ∙ ap (λ (p : List ℕ). sets c (2 * so_far.points) (coordinates_at (points_in store s.nodes) p)) (sym alone);
+          coordinates = r.is ∙ ap (λ (p : List ℕ). sets c (2 * so_far.points) (coordinates_at (pts_of m) p)) (sym alone);
           lengths = ap (set l so_far.paths) gap;
           paths = omega arith;
           points = r.next ∙ ap (λ (p : List ℕ). so_far.points + length p) (sym alone);
@@ -91,60 +90,53 @@ module _ {store : List ℤ} {m : List ℕ} {s : Sizes} {c : List ℤ} {l : List 
 
 -- ---- all results
 -- at the head of the loop, at result i: ps are the paths of all results
-pub record WritingOn (store : List ℤ) (m : List ℕ) (s : Sizes) (c₀ : List ℤ) (l₀ : List ℕ) (c : List ℤ) (l : List ℕ) (so_far : Counts) (i : ℕ) : Type 0 where
-  pub rest : Writing store m s c l so_far (nodes_read s.nodes (arena_at m s) (upwards i (s.results - i)))
-  pub coordinates : sets c (2 * so_far.points) (coordinates_at (points_in store s.nodes) (all_nodes (nodes_read s.nodes (arena_at m s) (upwards i (s.results - i)))))
-      ≡ sets c₀ 0 (coordinates_at (points_in store s.nodes) (all_nodes (nodes_read s.nodes (arena_at m s) (upwards 0 s.results))))
-  pub lengths : sets l so_far.paths (map length (nodes_read s.nodes (arena_at m s) (upwards i (s.results - i)))) ≡ sets l₀ 0 (map length (nodes_read s.nodes (arena_at m s) (upwards 0 s.results)))
-  pub paths : so_far.paths + length (nodes_read s.nodes (arena_at m s) (upwards i (s.results - i))) ≡ length (nodes_read s.nodes (arena_at m s) (upwards 0 s.results))
-  pub points : so_far.points + length (all_nodes (nodes_read s.nodes (arena_at m s) (upwards i (s.results - i)))) ≡ length (all_nodes (nodes_read s.nodes (arena_at m s) (upwards 0 s.results)))
+pub record WritingOn (m : lent.Arena) (c₀ : List ℤ) (l₀ : List ℕ) (c : List ℤ) (l : List ℕ) (so_far : Counts) (i : ℕ) : Type 0 where
+  pub rest : Writing c l so_far (nodes_read m.sizes.nodes (arena_of m) (upwards i (m.sizes.results - i)))
+  pub coordinates : sets c (2 * so_far.points) (coordinates_at (pts_of m) (all_nodes (nodes_read m.sizes.nodes (arena_of m) (upwards i (m.sizes.results - i)))))
+      ≡ sets c₀ 0 (coordinates_at (pts_of m) (all_nodes (nodes_read m.sizes.nodes (arena_of m) (upwards 0 m.sizes.results))))
+  pub lengths : sets l so_far.paths (map length (nodes_read m.sizes.nodes (arena_of m) (upwards i (m.sizes.results - i)))) ≡ sets l₀ 0 (map length (nodes_read m.sizes.nodes (arena_of m) (upwards 0 m.sizes.results)))
+  pub paths : so_far.paths + length (nodes_read m.sizes.nodes (arena_of m) (upwards i (m.sizes.results - i))) ≡ length (nodes_read m.sizes.nodes (arena_of m) (upwards 0 m.sizes.results))
+  pub points : so_far.points + length (all_nodes (nodes_read m.sizes.nodes (arena_of m) (upwards i (m.sizes.results - i)))) ≡ length (all_nodes (nodes_read m.sizes.nodes (arena_of m) (upwards 0 m.sizes.results)))
   pub same_coordinates : length c ≡ length c₀
   pub same_lengths : length l ≡ length l₀
 
-pub writing_start : {store : List ℤ} {m : List ℕ} {s : Sizes} {c : List ℤ} {l : List ℕ} → Writing store m s c l nothing_yet (nodes_read s.nodes (arena_at m s) (upwards 0 s.results))
-    → WritingOn store m s c l c l (record { paths = 0; points = 0 }) 0
-unfolding nothing_yet
-writing_start {s = s} x =
-    let z : s.results - 0 ≡ s.results = omega arith in
-    record { rest = rw z x; coordinates = rw z refl; lengths = rw z refl; paths = rw z (omega arith); points = rw z (omega arith); same_coordinates = refl; same_lengths = refl }
-
-module _ {store : List ℤ} {m : List ℕ} {s : Sizes} {c₀ : List ℤ} {l₀ : List ℕ} {c : List ℤ} {l : List ℕ} {so_far : Counts} {i : ℕ} (I : WritingOn store m s c₀ l₀ c l so_far i) where
-  module _ (z : i < s.results) where
+module _ {m : lent.Arena} {c₀ : List ℤ} {l₀ : List ℕ} {c : List ℤ} {l : List ℕ} {so_far : Counts} {i : ℕ} (I : WritingOn m c₀ l₀ c l so_far i) where
+  module _ (z : i < m.sizes.results) where
     head : List (List ℕ)
-    head = nodes_read s.nodes (arena_at m s) (i ∷ [])
+    head = nodes_read m.sizes.nodes (arena_of m) (i ∷ [])
 
     tail : List (List ℕ)
-    tail = nodes_read s.nodes (arena_at m s) (upwards (i + 1) (s.results - (i + 1)))
+    tail = nodes_read m.sizes.nodes (arena_of m) (upwards (i + 1) (m.sizes.results - (i + 1)))
 
-    parts : nodes_read s.nodes (arena_at m s) (upwards i (s.results - i)) ≡ head ++ tail
+    parts : nodes_read m.sizes.nodes (arena_of m) (upwards i (m.sizes.results - i)) ≡ head ++ tail
     unfolding head tail
     parts =
-        let one : s.results - i ≡ suc (s.results - suc i) = omega arith in
-        rw (add-one i) (ap (λ (k : ℕ). nodes_read s.nodes (arena_at m s) (upwards i k)) one ∙ read_cons s.nodes (arena_at m s) i (upwards (suc i) (s.results - suc i)))
+        let one : m.sizes.results - i ≡ suc (m.sizes.results - suc i) = omega arith in
+        rw (add-one i) (ap (λ (k : ℕ). nodes_read m.sizes.nodes (arena_of m) (upwards i k)) one ∙ read_cons m.sizes.nodes (arena_of m) i (upwards (suc i) (m.sizes.results - suc i)))
 
-    all_parts : all_nodes (nodes_read s.nodes (arena_at m s) (upwards i (s.results - i))) ≡ all_nodes head ++ all_nodes tail
+    all_parts : all_nodes (nodes_read m.sizes.nodes (arena_of m) (upwards i (m.sizes.results - i))) ≡ all_nodes head ++ all_nodes tail
     all_parts = ap all_nodes parts ∙ nodes_join head tail
 
-    points_parts : length (all_nodes (nodes_read s.nodes (arena_at m s) (upwards i (s.results - i)))) ≡ length (all_nodes head) + length (all_nodes tail)
+    points_parts : length (all_nodes (nodes_read m.sizes.nodes (arena_of m) (upwards i (m.sizes.results - i)))) ≡ length (all_nodes head) + length (all_nodes tail)
     points_parts = ap length all_parts ∙ length-append (all_nodes head) (all_nodes tail)
 
-    paths_parts : length (nodes_read s.nodes (arena_at m s) (upwards i (s.results - i))) ≡ length head + length tail
+    paths_parts : length (nodes_read m.sizes.nodes (arena_of m) (upwards i (m.sizes.results - i))) ≡ length head + length tail
     paths_parts = ap length parts ∙ length-append head tail
 
-    pub writing_may : Writing store m s c l so_far (nodes_read s.nodes (arena_at m s) (i ∷ []))
+    pub writing_may : Writing c l so_far (nodes_read m.sizes.nodes (arena_of m) (i ∷ []))
     unfolding head
-    writing_may = record { drawn = I.rest.drawn; holds = I.rest.holds; points = omega (arith, I.rest.points, points_parts); paths = omega (arith, I.rest.paths, paths_parts) }
+    writing_may = record { points = omega (arith, I.rest.points, points_parts); paths = omega (arith, I.rest.paths, paths_parts) }
 
-    pub writing_again : {c' : List ℤ} {l' : List ℕ} (r : Counts) → Written c c' l l' so_far r (points_in store s.nodes) (nodes_read s.nodes (arena_at m s) (i ∷ [])) → WritingOn store m s c₀ l₀ c' l' r (i + 1)
+    pub writing_again : {c' : List ℤ} {l' : List ℕ} (r : Counts) → Written c c' l l' so_far r (pts_of m) (nodes_read m.sizes.nodes (arena_of m) (i ∷ [])) → WritingOn m c₀ l₀ c' l' r (i + 1)
     unfolding head tail
     writing_again {c'} {l'} r w =
-        let pts = points_in store s.nodes in
+        let pts = pts_of m in
         let long : length c' ≡ length c = ap length w.coordinates ∙ length-sets c (2 * so_far.points) (coordinates_at pts (all_nodes head)) in
         let many : length l' ≡ length l = ap length w.lengths ∙ length-sets l so_far.paths (map length head) in
         let next : 2 * r.points ≡ 2 * so_far.points + length (coordinates_at pts (all_nodes head)) = omega (arith, w.points, coordinates_length pts (all_nodes head)) in
         let after : r.paths ≡ so_far.paths + length (map (length {A = ℕ}) head) = omega (arith, w.paths, length-map head (length {A = ℕ})) in
         record {
-          rest = record { drawn = I.rest.drawn; holds = I.rest.holds; points = omega (arith, I.rest.points, points_parts, w.points, long); paths = omega (arith, I.rest.paths, paths_parts, w.paths, many) };
+          rest = record { points = omega (arith, I.rest.points, points_parts, w.points, long); paths = omega (arith, I.rest.paths, paths_parts, w.paths, many) };
           coordinates = (λ j. sets (w.coordinates j) (next j) (coordinates_at pts (all_nodes tail)))
               ∙ sym (sets_append c (2 * so_far.points) (coordinates_at pts (all_nodes head)) (coordinates_at pts (all_nodes tail)))
               ∙ ap (sets c (2 * so_far.points)) (sym (coordinates_join pts (all_nodes head) (all_nodes tail)) ∙ ap (coordinates_at pts) (sym all_parts)) ∙ I.coordinates;
@@ -157,8 +149,8 @@ module _ {store : List ℤ} {m : List ℕ} {s : Sizes} {c₀ : List ℤ} {l₀ :
           same_lengths = many ∙ I.same_lengths;
         }
 
-  pub writing_all : s.results ≤ i → Written c₀ c l₀ l nothing_yet so_far (points_in store s.nodes) (nodes_read s.nodes (arena_at m s) (upwards 0 s.results))
+  pub writing_all : m.sizes.results ≤ i → Written c₀ c l₀ l nothing_yet so_far (pts_of m) (nodes_read m.sizes.nodes (arena_of m) (upwards 0 m.sizes.results))
   unfolding nothing_yet nodes_read coordinates_at
   writing_all h =
-      let z : s.results - i ≡ 0 = omega arith in
+      let z : m.sizes.results - i ≡ 0 = omega arith in
       record { coordinates = rw z at I.coordinates; lengths = rw z at I.lengths; paths = omega (arith, rw z at I.paths); points = omega (arith, rw z at I.points) }

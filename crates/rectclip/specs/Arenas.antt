@@ -1,6 +1,6 @@
 -- The arena as the work list holds it: fields 0 to 3 of slot i are node i's links, owner and edge, field 4 is result i,
 -- and fields 8 to 15 are the eight edge lists. `arena_at` is what the definition's Arena is here; `Valid` says that every number is in its range.
-use Rattle.std.specs.Prelude.{◌≡◌, List, [], ◌∷◌, ℕ, suc, ◌+◌, ◌<◌, ◌≤◌, length, get_or, set, eqb, if◌then◌else◌}
+use Rattle.std.specs.Prelude.{◌≡◌, Option, None, Some, List, [], ◌∷◌, ℕ, suc, ◌+◌, ◌<◌, ◌≤◌, length, get_or, set, eqb, if◌then◌else◌}
 use Rattle.plane.specs.Basics.{none}
 use Rattle.reference.specs.Arena.{Arena, owner_of, edge_of, next_of, prev_of, result_of, edge_list}
 use Rattle.rectclip.specs.declared.arena.Sizes.{Sizes}
@@ -20,6 +20,11 @@ arena_at m s = record {
   results = column 4 s.results m;
   edges = columns 8 s.lens m;
 }
+
+-- the number that stands for an index in the list, or the mark for none
+abbrev pub mark : Option ℕ → ℕ
+mark None = none
+mark (Some v) = v
 
 -- v is the mark, or below n
 abbrev pub Marked : ℕ → ℕ → Type 0
@@ -53,19 +58,6 @@ longer_list s e = record { slots = s.slots; nodes = s.nodes; results = s.results
 unfoldable pub one_result_more : Sizes → Sizes
 one_result_more s = record { slots = s.slots; nodes = s.nodes; results = s.results + 1; lens = s.lens }
 
--- What a function leaves that changes the arena to b and no size: b, in a list as long, valid again.
-pub record Leaves (m m' : List ℕ) (s : Sizes) (b : Arena) : Type 0 where
-  pub is : arena_at m' s ≡ b
-  pub holds : Holds m' s
-  pub same : length m' ≡ length m
-
--- the same where the sizes are s' afterwards, which the function hands back as r
-pub record Grows (m m' : List ℕ) (r s' : Sizes) (b : Arena) : Type 0 where
-  pub sizes : r ≡ s'
-  pub is : arena_at m' s' ≡ b
-  pub holds : Holds m' s'
-  pub same : length m' ≡ length m
-
 -- how many entries of a list are the mark
 abbrev pub free : List ℕ → ℕ
 free [] = 0
@@ -78,18 +70,3 @@ pub record Space (N r k : ℕ) (a : Arena) : Type 0 where
 
 abbrev pub Spare : ℕ → ℕ → Arena → Type 0
 Spare N k a = Space N k k a
-
--- What a function leaves that changes the arena to b and may push to results and edge lists; r are the sizes afterwards.
-pub record Becomes (m m' : List ℕ) (s r : Sizes) (b : Arena) : Type 0 where
-  pub is : arena_at m' r ≡ b
-  pub holds : Holds m' r
-  pub slots : r.slots ≡ s.slots
-  pub nodes : r.nodes ≡ s.nodes
-  pub results : s.results ≤ r.results
-  pub lists : (e : ℕ) → get_or s.lens e 0 ≤ get_or r.lens e 0
-  pub same : length m' ≡ length m
-
--- the same where each node enters one edge list at most: it takes no room but the node's own
-pub record Enters (m m' : List ℕ) (s r : Sizes) (b : Arena) : Type 0 where
-  pub becomes : Becomes m m' s r b
-  pub spare : (N k : ℕ) → Spare N k (arena_at m s) → Spare N k b

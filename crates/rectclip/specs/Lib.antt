@@ -1,9 +1,11 @@
 -- Words of the private functions' contracts, and the answers of the public ones.
 pub mod Bounds
+pub mod Boundary
 pub mod Parted
 pub mod Memory
 pub mod Walking
 pub mod Moving
+pub mod Steps
 pub mod Closing
 pub mod Scanned
 pub mod Crossing
@@ -12,6 +14,7 @@ pub mod Promises
 pub mod Outlining
 pub mod Arenas
 pub mod Stored
+pub mod Changes
 pub mod Rings
 pub mod Edges
 pub mod Paths

@@ -1,21 +1,14 @@
--- `get_next_location` on the lent lists: the line of a side, and what a move along the path answers.
-use Rattle.std.specs.Prelude.{◌≡◌, Bool, List, ℕ, ◌≤◌, eqb, ℤ, if◌then◌else◌}
+-- `get_next_location`: the line of a side, and the walk at a place on the path.
+use Rattle.std.specs.Prelude.{◌≡◌, Bool, ◌≤◌, eqb, ℤ, if◌then◌else◌}
 use Rattle.std.specs.Int.Signed.{le_z}
 use Rattle.plane.specs.declared.point.Point64.{Point64}
 use Rattle.plane.specs.declared.rect.Rect64.{Rect64}
 use Rattle.plane.specs.declared.location.Location.{Location}
 use Rattle.plane.specs.declared.location.Location.TheVariants.{Left, Top, Right, Bottom, Inside}
-use Rattle.plane.specs.Basics.{Try, refuse, ok}
 use Rattle.plane.specs.Rectangle.{beyond, beyond_or_on}
 use Rattle.reference.specs.Walk.{Walk, Next}
-use Rattle.rectclip.specs.declared.walk.WalkState.{WalkState}
 use Rattle.rectclip.specs.declared.next.Line.{Line}
-use Rattle.rectclip.specs.declared.next.ScanEnd.{ScanEnd}
-use Rattle.rectclip.specs.declared.next.NextState.{NextState}
-use Rattle.rectclip.specs.declared.next.Move.{Move}
-use Rattle.rectclip.specs.declared.next.Move.TheVariants.{To, Stopped}
-use Rattle.entry.specs.Answers.{number}
-use Rattle.rectclip.specs.Walking.{walk_of, Fits, Sheet}
+use Rattle.rectclip.specs.declared.next.Place.{Place}
 
 -- ---- the line of a side: a bound on x, at offset 0, or y, at offset 1
 -- whether a coordinate is on the line or past it
@@ -40,24 +33,6 @@ exit_side rect p =
     else if beyond rect Top p then Top
     else Inside
 
--- ---- where the walk stands, and what a move answers
-abbrev pub scanned : Walk → ScanEnd → Next
-scanned w r = record { walk = w; loc = r.loc; i = r.i }
-
-abbrev pub next_of : List ℤ → List ℕ → NextState → Next
-next_of store work n = record { walk = walk_of store work n.walk; loc = n.loc; i = n.i }
-
-abbrev pub moved : Move → List ℤ → List ℕ → Try Next
-moved (To n) store work = ok (next_of store work n)
-moved (Stopped why) store work = refuse (number why)
-
--- what a move of the walk needs
-pub record Moves (rect : Rect64) (path store : List ℤ) (work : List ℕ) (s : WalkState) : Type 0 where
-  pub fits : Fits store work s
-  pub sheet : Sheet rect path
-
--- what a move from point `from` ensures of the lists as it leaves them: its answer is the definition's, the walk fits again, and it has not gone back
-pub record Moved (goal : Try Next) (from : ℕ) (store : List ℤ) (work : List ℕ) (r : Move) : Type 0 where
-  pub answer : moved r store work ≡ goal
-  pub fits : (n : NextState) → r ≡ To n → Fits store work n.walk
-  pub forth : (n : NextState) → r ≡ To n → from ≤ n.i
+-- ---- the walk at a place on the path
+abbrev pub placed : Walk → Place → Next
+placed w p = record { walk = w; loc = p.loc; i = p.i }

@@ -1,6 +1,6 @@
 -- The walk of a closed path on the lent lists: its answer as the definition's, and parts of what follows the `while` that the code
 -- has in functions of their own.
-use Rattle.std.specs.Prelude.{◌≡◌, Bool, false, ◌&&◌, ◌||◌, List, [], ◌∷◌, ℕ, ◌+◌, ◌-◌, ◌/◌, ◌%◌, ◌≤◌, eqb, ℤ, length, if◌then◌else◌}
+use Rattle.std.specs.Prelude.{◌≡◌, Bool, false, ◌&&◌, ◌||◌, List, [], ◌∷◌, ℕ, ◌+◌, ◌-◌, ◌/◌, ◌%◌, ◌≤◌, eqb, ℤ, length, if◌then◌else◌, Result, Ok, Err}
 use Rattle.plane.specs.declared.point.Point64.{Point64}
 use Rattle.plane.specs.declared.rect.Rect64.{Rect64}
 use Rattle.plane.specs.declared.location.Location.{Location}
@@ -12,19 +12,16 @@ use Rattle.plane.specs.Polygon.{path1_contains_path2}
 use Rattle.plane.specs.Rectangle.{as_path, mid_point, contains_point, get_bounds_path, corner}
 use Rattle.reference.specs.Walk.{Walk, State, add, retrace}
 use Rattle.reference.specs.Walk as def
-use Rattle.rectclip.specs.declared.walk.WalkState.{WalkState}
-use Rattle.rectclip.specs.declared.walk.Step.{Step}
-use Rattle.rectclip.specs.declared.walk.Step.TheVariants.{Walked}
-use Rattle.rectclip.specs.declared.walk.Step.TheVariants as step
+use Rattle.rectclip.specs.declared.walk.Walker.{Walker}
+use Rattle.entry.specs.declared.answer.Refusal.{Refusal}
 use Rattle.rectclip.specs.declared.outline.Round.{Round}
 use Rattle.rectclip.specs.declared.outline.Round.TheVariants.{Never, Clockwise, CounterClockwise}
 use Rattle.rectclip.specs.declared.outline.Outline.{Outline}
-use Rattle.rectclip.specs.declared.outline.Outlined.{Outlined}
-use Rattle.rectclip.specs.declared.outline.Outlined.TheVariants.{Done, Refused}
 use Rattle.rectclip.specs.declared.outline.Turns.{Turns}
 use Rattle.entry.specs.Answers.{number}
 use Rattle.rectclip.specs.Memory.{Room}
 use Rattle.rectclip.specs.Walking.{walk_of, turned, Fits, Sheet}
+use Rattle.rectclip.specs.Steps.{walk, Answers}
 
 -- ---- the answer
 -- what the walk of n points entered in edge lists: where it went round, its last four points are the corners
@@ -39,20 +36,22 @@ entries Never = 0
 entries Clockwise = 4
 entries CounterClockwise = 4
 
-abbrev pub outlined : Outlined → List ℤ → List ℕ → Try def.Walked
-outlined (Done o) store work = ok (record { walk = walk_of store work o.walk; entered = entered_of o.walk.points o.round })
-outlined (Refused why) store work = refuse (number why)
-
--- a step of the walk as its end
-abbrev pub outline_of : Step → Round → Outlined
-outline_of (Walked w) round = Done (record { walk = w; round = round })
-outline_of (step.Refused why) round = Refused why
+abbrev pub outlined : Result Outline Refusal → List ℤ → List ℕ → Try def.Walked
+outlined (Ok o) store work = ok (record { walk = walk_of store work o.walk; entered = entered_of o.walk.points o.round })
+outlined (Err why) store work = refuse (number why)
 
 -- what the walk ensures of the lists as it leaves them: the answer is the definition's, the walk fits, and it has the corners
-pub record Drawn (goal : Try def.Walked) (store : List ℤ) (work : List ℕ) (r : Outlined) : Type 0 where
+pub record Drawn (goal : Try def.Walked) (store : List ℤ) (work : List ℕ) (r : Result Outline Refusal) : Type 0 where
   pub answer : outlined r store work ≡ goal
-  pub fits : (o : Outline) → r ≡ Done o → Fits store work o.walk
-  pub corners : (o : Outline) → r ≡ Done o → entries o.round ≤ o.walk.points
+  pub fits : (o : Outline) → r ≡ Ok o → Fits store work o.walk
+  pub corners : (o : Outline) → r ≡ Ok o → entries o.round ≤ o.walk.points
+
+-- the same of a walker, by how it went round
+abbrev pub outline : Walker → Round → def.Walked
+outline x k = record { walk = walk x; entered = entered_of x.state.points k }
+
+abbrev pub Outlines : Try def.Walked → Walker → Walker → Result Round Refusal → Type 0
+Outlines = Answers outline
 
 -- ---- the start sides' direction
 abbrev pub steps_up : Location → Location → Bool
@@ -86,16 +85,16 @@ module _ (full : ℕ → Bool) (rect : Rect64) where
   close_walk s = retrace full rect s.walk s.loc s.walk.start_locs >>= λ t. corner_toward t.0 t.1 s.first_cross
 
 -- ---- what the functions ask
+-- a path whose coordinates come in pairs, and its bounds
+pub record Bounded (path : List ℤ) (bounds : Rect64) : Type 0 where
+  pub even : length path % 2 ≡ 0
+  pub bound : bounds ≡ get_bounds_path (points_of path)
+
 -- a sheet whose coordinates come in pairs, and the path's bounds
 pub record Paired (rect : Rect64) (path : List ℤ) (bounds : Rect64) : Type 0 where
   pub sheet : Sheet rect path
   pub even : length path % 2 ≡ 0
   pub bound : bounds ≡ get_bounds_path (points_of path)
-
--- a walk of it that fits the lists
-pub record Ends (rect : Rect64) (path : List ℤ) (bounds : Rect64) (store : List ℤ) (work : List ℕ) (s : WalkState) : Type 0 where
-  pub fits : Fits store work s
-  pub paired : Paired rect path bounds
 
 -- lists with room for a walk of it
 pub record Walks (rect : Rect64) (path : List ℤ) (bounds : Rect64) (store : List ℤ) (work : List ℕ) : Type 0 where

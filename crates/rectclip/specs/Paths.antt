@@ -1,16 +1,17 @@
 -- `get_path` in two steps. First every ring is straightened and its result is its start or none; then the rings are read out.
 -- The nodes of a path stand for its points: `points_from` of the definition reads the points of `nodes_from`.
-use Rattle.std.specs.Prelude.{◌≡◌, List, [], ◌∷◌, ◌++◌, map, ℕ, zero, suc, ◌+◌, ◌*◌, ◌≤◌, length, ℤ, eqb, if◌then◌else◌}
+use Rattle.std.specs.Prelude.{◌≡◌, Option, IfSome, List, [], ◌∷◌, ◌++◌, map, ℕ, zero, suc, ◌+◌, ◌*◌, ◌<◌, ◌≤◌, length, ℤ, eqb, if◌then◌else◌}
 use Rattle.std.proofs.lemmas.List.Edits.{sets}
 use Rattle.plane.specs.declared.point.Point64.{Point64}
 use Rattle.plane.specs.Basics.{none}
 use Rattle.plane.specs.Points.{coordinates_of}
 use Rattle.reference.specs.Arena.{Arena, pt_of, next_of, result_of, set_result}
 use Rattle.reference.specs.Clip.{get_path}
+use Rattle.rectclip.specs.declared.arena.Arena as lent
 use Rattle.rectclip.specs.declared.arena.Sizes.{Sizes}
 use Rattle.rectclip.specs.declared.paths.Counts.{Counts}
-use Rattle.rectclip.specs.Arenas.{Holds, Leaves, Marked}
-use Rattle.rectclip.specs.Stored.{Drawn}
+use Rattle.rectclip.specs.Arenas.{mark}
+use Rattle.rectclip.specs.Changes.{Leaves}
 
 -- ---- the first step
 -- the ring of result r is straightened, and the result set to its start
@@ -22,10 +23,10 @@ straighten_results pts a [] = a
 straighten_results pts a (r ∷ rs) = straighten_results pts (straighten_result pts a r) rs
 
 -- a ring that was straightened: its arena g, and its start r
-pub record Started (m m' : List ℕ) (s : Sizes) (r : ℕ) (g : Arena × ℕ × List Point64) : Type 0 where
-  pub leaves : Leaves m m' s g.0
-  pub start : r ≡ g.1
-  pub start_in : Marked s.nodes r
+pub record Started (x y : lent.Arena) (r : Option ℕ) (g : Arena × ℕ × List Point64) : Type 0 where
+  pub leaves : Leaves x y g.0
+  pub start : mark r ≡ g.1
+  pub start_in : IfSome r (λ i. i < x.sizes.nodes)
 
 -- ---- the second step
 -- the nodes from curr on, up to node start; at most `left` of them
@@ -73,9 +74,7 @@ pub record CountedAll (r : Counts) (ps : List (List ℕ)) : Type 0 where
   pub points : r.points ≡ length (all_nodes ps)
 
 -- the nodes' points may be read out to c from point k on
-pub record Reading (store : List ℤ) (m : List ℕ) (s : Sizes) (c : List ℤ) (k : ℕ) (nodes : List ℕ) : Type 0 where
-  pub drawn : Drawn store s.nodes
-  pub holds : Holds m s
+pub record Reading (c : List ℤ) (k : ℕ) (nodes : List ℕ) : Type 0 where
   pub room : 2 * (k + length nodes) ≤ length c
 
 -- and they are: c' is c with their coordinates, and r is the point behind them
@@ -84,9 +83,7 @@ pub record Read (c c' : List ℤ) (k r : ℕ) (pts : List Point64) (nodes : List
   pub next : r ≡ k + length nodes
 
 -- the paths ps may be written behind those so far: their points' coordinates to c, their lengths to l
-pub record Writing (store : List ℤ) (m : List ℕ) (s : Sizes) (c : List ℤ) (l : List ℕ) (so_far : Counts) (ps : List (List ℕ)) : Type 0 where
-  pub drawn : Drawn store s.nodes
-  pub holds : Holds m s
+pub record Writing (c : List ℤ) (l : List ℕ) (so_far : Counts) (ps : List (List ℕ)) : Type 0 where
   pub points : 2 * (so_far.points + length (all_nodes ps)) ≤ length c
   pub paths : so_far.paths + length ps ≤ length l
 

@@ -6,7 +6,7 @@ use Rattle.reference.specs.Walk.{Walk}
 use Rattle.reference.specs.Lines.{pieces, longer_than_one}
 use Rattle.reference.specs.Entry.{joined, filled}
 use Rattle.rectclip.specs.declared.walk.WalkState.{WalkState}
-use Rattle.rectclip.specs.declared.pieces.Tally.{Tally}
+use Rattle.rectclip.specs.declared.paths.Counts.{Counts}
 use Rattle.rectclip.specs.Memory.{at}
 use Rattle.rectclip.specs.Walking.{walk_of, Fits}
 
@@ -19,7 +19,7 @@ abbrev pub start_of : List ℕ → WalkState → ℕ → ℕ
 start_of work s j = if ltb j s.starts then at 4 work j else s.points
 
 -- how many paths there are, and how many points they have
-pub record Tallied (store : List ℤ) (work : List ℕ) (s : WalkState) (r : Tally) : Type 0 where
+pub record Tallied (store : List ℤ) (work : List ℕ) (s : WalkState) (r : Counts) : Type 0 where
   pub paths : r.paths ≡ length (paths_of (walk_of store work s))
   pub points : r.points ≡ length (joined (paths_of (walk_of store work s)))
   pub few : r.paths ≤ s.starts

@@ -1,5 +1,5 @@
 -- What the entries of both clippers promise: the answer, every lent list afterwards, and demand 3 of the paths that a result returns.
-use Rattle.std.specs.Prelude.{◌≡◌, Bool, true, false, List, map, ℕ, ◌+◌, ◌/◌, ◌≤◌, ℤ, length, take}
+use Rattle.std.specs.Prelude.{◌≡◌, Bool, true, false, List, map, ℕ, ◌+◌, ◌/◌, ◌≤◌, ℤ, length, take, Result, Ok}
 use Rattle.plane.specs.declared.point.Point64.{Point64}
 use Rattle.plane.specs.declared.rect.Rect64.{Rect64}
 use Rattle.plane.specs.Basics.{Try}
@@ -9,8 +9,7 @@ use Rattle.plane.specs.Rectangle.{get_bounds_path}
 use Rattle.theorems.specs.Demand.{Exactness}
 use Rattle.reference.specs.Entry.{Drawing, Lent, After, joined, drawing_of, delivered, clip_path, filled_part}
 use Rattle.reference.specs.Walk.{no_room}
-use Rattle.entry.specs.declared.answer.Answer.{Answer}
-use Rattle.entry.specs.declared.answer.Answer.TheVariants.{Drawn}
+use Rattle.entry.specs.declared.answer.Refusal.{Refusal}
 use Rattle.entry.specs.declared.answer.Counts.{Counts}
 use Rattle.entry.specs.Answers.{outcome}
 use Rattle.rectclip.specs.Memory.{Room}
@@ -23,7 +22,7 @@ lent coordinates lengths store work = record { coordinates = coordinates; length
 -- 'Checks run in number order; the first that applies is given, and only then', and 'Each returns its number alone, and leaves coordinate
 -- and length lists as they came. 1 to 7 leave store and work too; 8 to 11, and every result, leave both all zero. A result gives paths,
 -- points and turns, and changes only the leading entries it fills.'
-pub record Clips (a : After) (r : Answer) (after : Lent) : Type 0 where
+pub record Clips (a : After) (r : Result Counts Refusal) (after : Lent) : Type 0 where
   pub answer : outcome r ≡ a.answer
   pub coordinates : after.coordinates ≡ a.lists.coordinates
   pub lengths : after.lengths ≡ a.lists.lengths
@@ -31,7 +30,7 @@ pub record Clips (a : After) (r : Answer) (after : Lent) : Type 0 where
   pub work : after.work ≡ a.lists.work
 
 -- the answer and the two lists that are filled alone: where store and work are not lent, or are still to be cleared
-pub record Leaves (a : After) (r : Answer) (coordinates : List ℤ) (lengths : List ℕ) : Type 0 where
+pub record Leaves (a : After) (r : Result Counts Refusal) (coordinates : List ℤ) (lengths : List ℕ) : Type 0 where
   pub answer : outcome r ≡ a.answer
   pub coords : coordinates ≡ a.lists.coordinates
   pub counts : lengths ≡ a.lists.lengths
@@ -46,18 +45,18 @@ pub record Returned (closed : Bool) (rect : Rect64) (path : List ℤ) (count poi
   pub exact : Exactness closed rect (points_of path) paths
 
 -- where the answer is a result: as many paths and points as its counts say
-abbrev pub ReturnedBy : Bool → Rect64 → List ℤ → Answer → List ℤ → List ℕ → Type 0
-ReturnedBy closed rect path r coordinates lengths = (c : Counts) → r ≡ Drawn c → Returned closed rect path c.paths c.points coordinates lengths
+abbrev pub ReturnedBy : Bool → Rect64 → List ℤ → Result Counts Refusal → List ℤ → List ℕ → Type 0
+ReturnedBy closed rect path r coordinates lengths = (c : Counts) → r ≡ Ok c → Returned closed rect path c.paths c.points coordinates lengths
 
 -- `RectClip64::execute` with the turn allowance A, and `RectClipLines64::execute`, by the path's kind: r is the answer, `before` and `after` are
 -- the lent lists
-pub record ClipsPath (closed : Bool) (A : ℕ) (rect : Rect64) (path : List ℤ) (before : Lent) (r : Answer) (after : Lent) : Type 0 where
+pub record ClipsPath (closed : Bool) (A : ℕ) (rect : Rect64) (path : List ℤ) (before : Lent) (r : Result Counts Refusal) (after : Lent) : Type 0 where
   pub clips : Clips (clip_path closed A rect path before) r after
   pub returned : ReturnedBy closed rect path r after.coordinates after.lengths
 
 -- ---- words of the private functions
 -- a drawing is handed out; what store and work hold does not matter
-pub record Delivers (d : Drawing) (coordinates : List ℤ) (lengths : List ℕ) (r : Answer) (coordinates' : List ℤ) (lengths' : List ℕ) : Type 0 where
+pub record Delivers (d : Drawing) (coordinates : List ℤ) (lengths : List ℕ) (r : Result Counts Refusal) (coordinates' : List ℤ) (lengths' : List ℕ) : Type 0 where
   pub is : (store : List ℤ) (work : List ℕ) → Leaves (delivered (lent coordinates lengths store work) d) r coordinates' lengths'
 
 -- the line clipper's drawing

@@ -1,5 +1,5 @@
 -- The walk in the lent lists: which part of them is the walk, what every step keeps, and what a step answers.
-use Rattle.std.specs.Prelude.{◌≡◌, List, map, ℕ, zero, suc, ◌+◌, ◌*◌, ◌/◌, ◌<◌, ◌≤◌, length, take, ℤ, Bool, true, false, if◌then◌else◌}
+use Rattle.std.specs.Prelude.{◌≡◌, List, map, ℕ, zero, suc, ◌+◌, ◌*◌, ◌/◌, ◌<◌, ◌≤◌, length, take, ℤ, Bool, true, false, if◌then◌else◌, Result, Ok, Err}
 use Rattle.plane.specs.declared.point.Point64.{Point64}
 use Rattle.plane.specs.declared.location.Location.{Location}
 use Rattle.plane.specs.declared.location.Location.TheVariants.{Left, Top, Right, Bottom, Inside}
@@ -11,8 +11,7 @@ use Rattle.plane.specs.Points.{pt_at, points_of}
 use Rattle.plane.specs.Rectangle.{is_empty, corner}
 use Rattle.reference.specs.Walk.{Walk}
 use Rattle.rectclip.specs.declared.walk.WalkState.{WalkState}
-use Rattle.rectclip.specs.declared.walk.Step.{Step}
-use Rattle.rectclip.specs.declared.walk.Step.TheVariants.{Walked, Refused}
+use Rattle.entry.specs.declared.answer.Refusal.{Refusal}
 use Rattle.entry.specs.Answers.{number}
 use Rattle.rectclip.specs.Bounds.{Reached}
 use Rattle.rectclip.specs.Memory.{at, Room, column}
@@ -34,9 +33,9 @@ walk_of store work s = record {
 }
 
 -- what a step answers: the walk as the lists have it, or a refusal
-abbrev pub stepped : Step → List ℤ → List ℕ → Try Walk
-stepped (Walked s) store work = ok (walk_of store work s)
-stepped (Refused why) store work = refuse (number why)
+abbrev pub stepped : Result WalkState Refusal → List ℤ → List ℕ → Try Walk
+stepped (Ok s) store work = ok (walk_of store work s)
+stepped (Err why) store work = refuse (number why)
 
 -- the walk has its place in the lists, with a slot for each of W points and one more
 pub record Fits (store : List ℤ) (work : List ℕ) (s : WalkState) : Type 0 where
@@ -55,24 +54,11 @@ pub record Sheet (rect : Rect64) (path : List ℤ) : Type 0 where
   pub frame : rect_in_limit rect ≡ true
   pub points : all_in_limit path ≡ true
 
--- what a step of the walk needs, with a point to add; with all points of a path; with corners of the rectangle
-pub record Adds (store : List ℤ) (work : List ℕ) (s : WalkState) (pt : Point64) : Type 0 where
-  pub fits : Fits store work s
-  pub close : Reached pt
-
-pub record AddsAll (path store : List ℤ) (work : List ℕ) (s : WalkState) : Type 0 where
-  pub fits : Fits store work s
-  pub limit : all_in_limit path ≡ true
-
-pub record AddsCorners (rect : Rect64) (store : List ℤ) (work : List ℕ) (s : WalkState) : Type 0 where
-  pub fits : Fits store work s
-  pub limit : rect_in_limit rect ≡ true
-
 -- the corner that `add_corner_loc` adds
 abbrev pub turned : Rect64 → Location → Bool → Point64
 turned rect loc is_clockwise = corner rect (if is_clockwise then loc else get_adjacent_location loc is_clockwise)
 
 -- what a step of the walk ensures of the lists as it leaves them: its answer is the definition's, and the walk fits again
-pub record Stepped (goal : Try Walk) (store : List ℤ) (work : List ℕ) (r : Step) : Type 0 where
+pub record Stepped (goal : Try Walk) (store : List ℤ) (work : List ℕ) (r : Result WalkState Refusal) : Type 0 where
   pub answer : stepped r store work ≡ goal
-  pub fits : (s : WalkState) → r ≡ Walked s → Fits store work s
+  pub fits : (s : WalkState) → r ≡ Ok s → Fits store work s

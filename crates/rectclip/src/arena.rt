@@ -1,11 +1,13 @@
-// The arena in the lent work list: reading and writing one number of it, and pushing to results and edge lists.
-// These are the only functions of the polygon clipper that see the list's fields.
-ghost use Rattle.std.specs.Prelude.{◌≡◌, ◌<◌, length, get_or};
+// The arena in the lent lists: a node's point in the store; its links, owner and edge, the results and the edge lists in the work list.
+// These methods are the only functions of the polygon clipper that see the work list's fields.
+ghost use Rattle.std.specs.Prelude.{◌≡◌, ◌≢◌, ◌<◌, IfSome, eqb, get_or};
 ghost use Rattle.plane.specs.Basics.{none, push};
-ghost use Rattle.reference.specs.Arena.{next_of, prev_of, owner_of, edge_of, result_of, edge_list, set_next, set_prev, set_owner, set_edge, set_result, set_results, set_entry, set_edge_list};
-ghost use Rattle.rectclip.specs.Arenas.{arena_at, Holds, Marked, Leaves, Grows, longer_list, one_result_more};
+ghost use Rattle.reference.specs.Arena.{pt_of, next_of, prev_of, owner_of, edge_of, result_of, edge_list, set_next, set_prev, set_owner, set_edge, set_result, set_results, set_entry, set_edge_list, set_new_owner};
+ghost use Rattle.rectclip.specs.Arenas.{Holds, mark, longer_list, one_result_more};
+ghost use Rattle.rectclip.specs.Stored.{Drawn};
 
-use crate::lists::{EDGE, EDGES, NEXT, OWNER, PREV, RESULT, get, store};
+use crate::lists::{EDGE, EDGES, NEXT, NONE, OWNER, PREV, RESULT, get, point_at, store};
+use plane::point::Point64;
 
 // How many slots there are, how many of them are nodes and results, and how long each edge list is.
 #[derive(Clone, Copy)]
@@ -16,122 +18,190 @@ pub(crate) struct Sizes {
     pub lens: [usize; 8],
 }
 
-// `arena[i].next`
-pub(crate) fn next_of(work: &[u32], s: Sizes, i: usize) -> usize
-    requires { Holds work.now s × (i < s.nodes) }
-    ensures { result ≡ next_of (arena_at work.now s) i }
-{
-    get(work, NEXT, i)
+// The lent lists with the sizes: the store holds the nodes' points, and the work list the arena.
+#[derive(Drop)]
+pub(crate) struct Arena<'a> {
+    pub(crate) store: &'a [i64],
+    pub(crate) work: &'a mut [u32],
+    pub(crate) sizes: Sizes,
+    ghost drawn: { Drawn store.now sizes.nodes },
+    ghost holds: { Holds work.now sizes },
 }
 
-// `arena[i].prev`
-pub(crate) fn prev_of(work: &[u32], s: Sizes, i: usize) -> usize
-    requires { Holds work.now s × (i < s.nodes) }
-    ensures { result ≡ prev_of (arena_at work.now s) i }
+// What a number of the list stands for: the mark for `None`.
+fn unmarked(v: usize) -> Option<usize>
+    ensures is { mark result ≡ v }
+    ensures some { IfSome result (λ i. i ≢ none) }
 {
-    get(work, PREV, i)
+    if v == NONE { None } else { Some(v) }
 }
 
-// `arena[i].owner_idx`
-pub(crate) fn owner_of(work: &[u32], s: Sizes, i: usize) -> usize
-    requires { Holds work.now s × (i < s.nodes) }
-    ensures { result ≡ owner_of (arena_at work.now s) i }
+// The number that the list holds for it.
+fn marked(v: Option<usize>) -> usize
+    ensures { result ≡ mark v }
 {
-    get(work, OWNER, i)
+    v.unwrap_or(NONE)
 }
 
-// `arena[i].edge_idx`
-pub(crate) fn edge_of(work: &[u32], s: Sizes, i: usize) -> usize
-    requires { Holds work.now s × (i < s.nodes) }
-    ensures { result ≡ edge_of (arena_at work.now s) i }
-{
-    get(work, EDGE, i)
-}
+// A node's four fields have a reader and a setter each, as the definition has: one over the field's number would need the field's bound
+// and law by cases at each call.
+impl<'a> Arena<'a> {
+    ghost use Rattle.rectclip.specs.Changes.{arena_of, pts_of, Leaves, Grows};
 
-// `results[i]`
-pub(crate) fn result_of(work: &[u32], s: Sizes, i: usize) -> usize
-    requires { Holds work.now s × (i < s.results) }
-    ensures { result ≡ result_of (arena_at work.now s) i }
-{
-    get(work, RESULT, i)
-}
+    // `arena[i].pt`
+    pub(crate) fn point_of(&self, i: usize) -> Point64
+        requires { i < self.now.sizes.nodes }
+        ensures { result ≡ pt_of (pts_of self.now) i }
+    {
+        point_at(self.store, i)
+    }
 
-// `edges[e][j]`
-pub(crate) fn entry_of(work: &[u32], s: Sizes, e: usize, j: usize) -> usize
-    requires { Holds work.now s × (e < 8) × (j < get_or s.lens e 0) }
-    ensures { result ≡ get_or (edge_list (arena_at work.now s) e) j none }
-{
-    get(work, EDGES + e, j)
-}
+    // `arena[i].next`
+    pub(crate) fn next_of(&self, i: usize) -> usize
+        requires { i < self.now.sizes.nodes }
+        ensures is { result ≡ next_of (arena_of self.now) i }
+        ensures within { result < self.now.sizes.nodes }
+    {
+        get(self.work, NEXT, i)
+    }
 
-// `arena[i].next = v`
-pub(crate) fn set_next(work: &mut [u32], s: Sizes, i: usize, v: usize)
-    requires { Holds work.old s × (i < s.nodes) × (v < s.nodes) }
-    ensures { Leaves work.old work.new s (set_next (arena_at work.old s) i v) }
-{
-    store(work, NEXT, i, v);
-}
+    // `arena[i].prev`
+    pub(crate) fn prev_of(&self, i: usize) -> usize
+        requires { i < self.now.sizes.nodes }
+        ensures is { result ≡ prev_of (arena_of self.now) i }
+        ensures within { result < self.now.sizes.nodes }
+    {
+        get(self.work, PREV, i)
+    }
 
-// `arena[i].prev = v`
-pub(crate) fn set_prev(work: &mut [u32], s: Sizes, i: usize, v: usize)
-    requires { Holds work.old s × (i < s.nodes) × (v < s.nodes) }
-    ensures { Leaves work.old work.new s (set_prev (arena_at work.old s) i v) }
-{
-    store(work, PREV, i, v);
-}
+    // `arena[i].owner_idx`
+    pub(crate) fn owner_of(&self, i: usize) -> usize
+        requires { i < self.now.sizes.nodes }
+        ensures is { result ≡ owner_of (arena_of self.now) i }
+        ensures within { result < self.now.sizes.results }
+    {
+        get(self.work, OWNER, i)
+    }
 
-// `arena[i].owner_idx = v`
-pub(crate) fn set_owner(work: &mut [u32], s: Sizes, i: usize, v: usize)
-    requires { Holds work.old s × (i < s.nodes) × (v < s.results) }
-    ensures { Leaves work.old work.new s (set_owner (arena_at work.old s) i v) }
-{
-    store(work, OWNER, i, v);
-}
+    // `arena[i].edge_idx`
+    pub(crate) fn edge_of(&self, i: usize) -> Option<usize>
+        requires { i < self.now.sizes.nodes }
+        ensures is { mark result ≡ edge_of (arena_of self.now) i }
+        ensures within { IfSome result (λ e. e < 8) }
+    {
+        unmarked(get(self.work, EDGE, i))
+    }
 
-// `arena[i].edge_idx = v`
-pub(crate) fn set_edge(work: &mut [u32], s: Sizes, i: usize, v: usize)
-    requires { Holds work.old s × (i < s.nodes) × Marked 8 v }
-    ensures { Leaves work.old work.new s (set_edge (arena_at work.old s) i v) }
-{
-    store(work, EDGE, i, v);
-}
+    // `results[i]`
+    pub(crate) fn result_of(&self, i: usize) -> Option<usize>
+        requires { i < self.now.sizes.results }
+        ensures is { mark result ≡ result_of (arena_of self.now) i }
+        ensures within { IfSome result (λ op. op < self.now.sizes.nodes) }
+    {
+        unmarked(get(self.work, RESULT, i))
+    }
 
-// `results[i] = v`
-pub(crate) fn set_result(work: &mut [u32], s: Sizes, i: usize, v: usize)
-    requires { Holds work.old s × (i < s.results) × Marked s.nodes v }
-    ensures { Leaves work.old work.new s (set_result (arena_at work.old s) i v) }
-{
-    store(work, RESULT, i, v);
-}
+    // `edges[e][j]`
+    pub(crate) fn entry_of(&self, e: usize, j: usize) -> Option<usize>
+        requires { (e < 8) × (j < get_or self.now.sizes.lens e 0) }
+        ensures is { mark result ≡ get_or (edge_list (arena_of self.now) e) j none }
+        ensures within { IfSome result (λ op. op < self.now.sizes.nodes) }
+    {
+        unmarked(get(self.work, EDGES + e, j))
+    }
 
-// `edges[e][i] = v`
-pub(crate) fn set_entry(work: &mut [u32], s: Sizes, e: usize, i: usize, v: usize)
-    requires { Holds work.old s × (e < 8) × (i < get_or s.lens e 0) × Marked s.nodes v }
-    ensures { Leaves work.old work.new s (set_entry (arena_at work.old s) e i v) }
-{
-    store(work, EDGES + e, i, v);
-}
+    // `edges[e][j] == Some(op)`, in one comparison: an edge list is looked through for each node that leaves it
+    pub(crate) fn is_entry(&self, e: usize, j: usize, op: usize) -> bool
+        requires { (e < 8) × (j < get_or self.now.sizes.lens e 0) }
+        ensures { result ≡ eqb (get_or (edge_list (arena_of self.now) e) j none) op }
+    {
+        get(self.work, EDGES + e, j) == op
+    }
 
-// `results.push(v)`: the sizes afterwards.
-pub(crate) fn push_result(work: &mut [u32], s: Sizes, v: usize) -> Sizes
-    requires { Holds work.old s × (s.results < s.slots) × Marked s.nodes v }
-    ensures { Grows work.old work.new result (one_result_more s) (set_results (arena_at work.old s) (push (arena_at work.old s).results v)) }
-{
-    let mut out = s;
-    let n = out.results;
-    store(work, RESULT, n, v);
-    out.results = n + 1;
-    out
-}
+    // `arena[i].next = v`
+    pub(crate) fn set_next(&mut self, i: usize, v: usize)
+        requires { (i < self.old.sizes.nodes) × (v < self.old.sizes.nodes) }
+        ensures { Leaves self.old self.new (set_next (arena_of self.old) i v) }
+    {
+        store(self.work, NEXT, i, v);
+    }
 
-// `edges[e].push(v)`: the sizes afterwards.
-pub(crate) fn push_entry(work: &mut [u32], s: Sizes, e: usize, v: usize) -> Sizes
-    requires { Holds work.old s × (e < 8) × (get_or s.lens e 0 < s.slots) × Marked s.nodes v }
-    ensures { Grows work.old work.new result (longer_list s e) (set_edge_list (arena_at work.old s) e (push (edge_list (arena_at work.old s) e) v)) }
-{
-    let mut out = s;
-    let n = out.lens[e];
-    store(work, EDGES + e, n, v);
-    out.lens[e] = n + 1;
-    out
+    // `arena[i].prev = v`
+    pub(crate) fn set_prev(&mut self, i: usize, v: usize)
+        requires { (i < self.old.sizes.nodes) × (v < self.old.sizes.nodes) }
+        ensures { Leaves self.old self.new (set_prev (arena_of self.old) i v) }
+    {
+        store(self.work, PREV, i, v);
+    }
+
+    // `arena[i].owner_idx = v`
+    pub(crate) fn set_owner(&mut self, i: usize, v: usize)
+        requires { (i < self.old.sizes.nodes) × (v < self.old.sizes.results) }
+        ensures { Leaves self.old self.new (set_owner (arena_of self.old) i v) }
+    {
+        store(self.work, OWNER, i, v);
+    }
+
+    // Each node of the ring of `op` has the owner `owner` from now on.
+    // The loop is over the plain list, down to 0: the address stays in a register, 7 instructions a node, not 9 (a random walk of 1,024 points).
+    pub(crate) fn set_new_owner(&mut self, op: usize, owner: usize)
+        requires { (op < self.old.sizes.nodes) × (owner < self.old.sizes.results) }
+        ensures { Leaves self.old self.new (set_new_owner self.old.sizes.nodes (arena_of self.old) op owner) }
+    {
+        let nodes = self.sizes.nodes;
+        let work = &mut *self.work;
+        store(work, OWNER, op, owner);
+        let mut op2 = get(work, NEXT, op);
+        for _pass in (0..nodes).rev() {
+            if op2 == op {
+                return;
+            }
+            store(work, OWNER, op2, owner);
+            op2 = get(work, NEXT, op2);
+        }
+    }
+
+    // `arena[i].edge_idx = v`
+    pub(crate) fn set_edge(&mut self, i: usize, v: Option<usize>)
+        requires { (i < self.old.sizes.nodes) × IfSome v (λ e. e < 8) }
+        ensures { Leaves self.old self.new (set_edge (arena_of self.old) i (mark v)) }
+    {
+        store(self.work, EDGE, i, marked(v));
+    }
+
+    // `results[i] = v`
+    pub(crate) fn set_result(&mut self, i: usize, v: Option<usize>)
+        requires { (i < self.old.sizes.results) × IfSome v (λ op. op < self.old.sizes.nodes) }
+        ensures { Leaves self.old self.new (set_result (arena_of self.old) i (mark v)) }
+    {
+        store(self.work, RESULT, i, marked(v));
+    }
+
+    // `edges[e][i] = v`
+    pub(crate) fn set_entry(&mut self, e: usize, i: usize, v: Option<usize>)
+        requires { (e < 8) × (i < get_or self.old.sizes.lens e 0) × IfSome v (λ op. op < self.old.sizes.nodes) }
+        ensures { Leaves self.old self.new (set_entry (arena_of self.old) e i (mark v)) }
+    {
+        store(self.work, EDGES + e, i, marked(v));
+    }
+
+    // `results.push(v)`
+    pub(crate) fn push_result(&mut self, v: usize)
+        requires { (self.old.sizes.results < self.old.sizes.slots) × (v < self.old.sizes.nodes) }
+        ensures { Grows self.old self.new (one_result_more self.old.sizes) (set_results (arena_of self.old) (push (arena_of self.old).results v)) }
+    {
+        let n = self.sizes.results;
+        store(self.work, RESULT, n, v);
+        self.sizes.results = n + 1;
+    }
+
+    // `edges[e].push(v)`
+    pub(crate) fn push_entry(&mut self, e: usize, v: usize)
+        requires { (e < 8) × (get_or self.old.sizes.lens e 0 < self.old.sizes.slots) × (v < self.old.sizes.nodes) }
+        ensures { Grows self.old self.new (longer_list self.old.sizes e) (set_edge_list (arena_of self.old) e (push (edge_list (arena_of self.old) e) v)) }
+    {
+        let n = self.sizes.lens[e];
+        store(self.work, EDGES + e, n, v);
+        self.sizes.lens[e] = n + 1;
+    }
 }

@@ -1,12 +1,10 @@
 // Idle turns of `tidy_edges`: those that change no list, up to two edges that overlap or a clockwise entry that is not live.
-// They only read, so the sizes are not copied from turn to turn.
-ghost use Rattle.std.specs.Prelude.{◌≡◌, ◌<◌, get_or};
-ghost use Rattle.rectclip.specs.Arenas.{arena_at, Holds, Marked};
-ghost use Rattle.rectclip.specs.Stored.{points_in};
+ghost use Rattle.std.specs.Prelude.{◌≡◌, ◌<◌, IfSome, get_or};
+ghost use Rattle.rectclip.specs.Arenas.{mark};
+ghost use Rattle.rectclip.specs.Changes.{arena_of, pts_of};
 ghost use Rattle.rectclip.specs.Turns.{is_live, Sought, Turning, Idling, Idled};
 
-use crate::arena::{Sizes, entry_of};
-use crate::lists::NONE;
+use crate::arena::Arena;
 use crate::regroup::{four_of, overlap};
 use crate::rings::is_stub;
 
@@ -26,90 +24,75 @@ pub(crate) struct Place {
 }
 
 // Whether an entry is a node whose ring is no stub.
-pub(crate) fn is_live(work: &[u32], s: Sizes, x: usize) -> bool
-    requires { Holds work.now s × Marked s.nodes x }
-    ensures { result ≡ is_live (arena_at work.now s) x }
+pub(crate) fn is_live(a: &Arena, x: Option<usize>) -> bool
+    requires { IfSome x (λ op. op < a.now.sizes.nodes) }
+    ensures { result ≡ is_live (arena_of a.now) (mark x) }
 {
-    if x == NONE {
-        return false;
+    match x {
+        None => false,
+        Some(op) => !is_stub(a, op),
     }
-    !is_stub(work, s, x)
 }
 
-// The inner `while`: the first position from `from` on of list `e`, of `len` entries, whose entry is live.
-pub(crate) fn seek(work: &[u32], s: Sizes, e: usize, len: usize, from: usize) -> usize
-    requires { Holds work.now s × (e < 8) × (len ≡ get_or s.lens e 0) }
-    ensures { Sought (arena_at work.now s) e from result }
+// The inner `while`: the first position from `from` on of list `e` whose entry is live.
+pub(crate) fn seek(a: &Arena, e: usize, from: usize) -> usize
+    requires { e < 8 }
+    ensures { Sought (arena_of a.now) e from result }
 {
-    let mut j = from;
-    while j < len {
-        if is_live(work, s, entry_of(work, s, e, j)) {
+    let len = a.sizes.lens[e];
+    for j in from..len {
+        if is_live(a, a.entry_of(e, j)) {
             return j;
         }
-        j += 1;
     }
-    j
+    from.max(len)
 }
 
-// The idle turns at the live clockwise entry `i`, from `from` on of the other list, which has `len` entries.
-pub(crate) fn idle_along(
-    store: &[i64],
-    work: &[u32],
-    s: Sizes,
-    idx: usize,
-    i: usize,
-    len: usize,
-    from: usize,
-    allowed: usize,
-) -> Along
-    requires { Idling store.now work.now s idx i len }
-    ensures { Idled (points_in store.now s.nodes) idx (arena_at work.now s) allowed i from result.left i result.j }
+// The idle turns at the live clockwise entry `i`, from `from` on of the other list.
+pub(crate) fn idle_along(a: &Arena, idx: usize, i: usize, from: usize, allowed: usize) -> Along
+    requires { Idling a.now idx i }
+    ensures { Idled (pts_of a.now) idx (arena_of a.now) allowed i from result.left i result.j }
 {
     let ccw = idx * 2 + 1;
-    let root1 = entry_of(work, s, idx * 2, i);
+    let root1 = a.entry_of(idx * 2, i).unwrap();
     let mut j = from;
-    let mut left = allowed;
-    while left > 0 {
-        j = seek(work, s, ccw, len, j);
-        if len <= j {
+    for taken in 0..allowed {
+        let left = allowed - taken;
+        j = seek(a, ccw, j);
+        if a.sizes.lens[ccw] <= j {
             return Along { j, left };
         }
-        let root2 = entry_of(work, s, ccw, j);
-        let f = four_of(work, s, idx, root1, root2);
-        if overlap(store, s, idx, f) {
+        let root2 = a.entry_of(ccw, j).unwrap();
+        let f = four_of(a, idx, root1, root2);
+        if overlap(a, idx, f) {
             return Along { j, left };
         }
         j += 1;
-        left -= 1;
     }
-    Along { j, left }
+    Along { j, left: 0 }
 }
 
 // The idle turns of the side from `first` on of the clockwise list and `second` on of the other, as many as are allowed.
 pub(crate) fn idle_turns(
-    store: &[i64],
-    work: &[u32],
-    s: Sizes,
+    a: &Arena,
     idx: usize,
     first: usize,
     second: usize,
     allowed: usize,
 ) -> Place
-    requires { Turning store.now work.now s idx }
-    ensures { Idled (points_in store.now s.nodes) idx (arena_at work.now s) allowed first second result.left result.i result.j }
+    requires { Turning a.now idx }
+    ensures { Idled (pts_of a.now) idx (arena_of a.now) allowed first second result.left result.i result.j }
 {
     let cw = idx * 2;
-    let lens = s.lens;
-    let len = lens[cw];
-    let other = lens[cw + 1];
-    let mut i = first;
+    let len = a.sizes.lens[cw];
+    let other = a.sizes.lens[cw + 1];
     let mut j = second;
     let mut left = allowed;
-    while i < len {
-        if !is_live(work, s, entry_of(work, s, cw, i)) {
+    for i in first..len {
+        if !is_live(a, a.entry_of(cw, i)) {
             return Place { i, j, left };
         }
-        let at = idle_along(store, work, s, idx, i, other, j, left);
+        let at = idle_along(a, idx, i, j, left);
         j = at.j;
         left = at.left;
         if j < other {
@@ -118,9 +101,12 @@ pub(crate) fn idle_turns(
         if left == 0 {
             return Place { i, j, left };
         }
-        i += 1;
         j = 0;
         left -= 1;
     }
-    Place { i, j, left }
+    Place {
+        i: first.max(len),
+        j,
+        left,
+    }
 }

@@ -3,6 +3,8 @@
 #![tactic(auto)]
 
 mod arena;
+mod boundary;
+pub mod clip;
 mod clipping;
 mod closed;
 mod corners;
@@ -14,6 +16,7 @@ pub mod lines;
 mod lists;
 mod next;
 mod outline;
+mod pass;
 mod paths;
 mod pieces;
 mod polygon;

@@ -1,19 +1,21 @@
 // `RectClipLines64`: one open path clipped to a rectangle.
-ghost use Rattle.std.specs.Prelude.{◌≡◌, false, ◌/◌, length};
+ghost use Rattle.std.specs.Prelude.{◌≡◌, false, Ok, ◌/◌, length};
 ghost use Rattle.reference.specs.Entry.{answered};
 ghost use Rattle.rectclip.specs.Walking.{walk_of, Fits};
 ghost use Rattle.rectclip.specs.Pieces.{paths_of};
 ghost use Rattle.rectclip.specs.Promises.{lent, line_drawing, ClipsPath, Leaves, Delivers, Drawable};
 
+use crate::deliver::fitting;
 use crate::line_walk::line_walk;
 use crate::lists::{clear_store, clear_work};
 use crate::pieces::{count_pieces, write_pieces};
-use crate::walk::{Step, WalkState};
-use entry::admission::{Admission, admit};
-use entry::answer::{Answer, Counts, Refusal};
+use crate::walk::WalkState;
+use entry::admission::admit;
+use entry::answer::{Answer, Counts};
 use plane::rect::Rect64;
 
-// The clipper of open paths, for one rectangle.
+// The clipper of open paths, for one rectangle. Its `execute` and that of RectClip64 are the same four calls, of other functions and with
+// other parameters: one over a trait would pass each of them in.
 #[derive(Clone, Copy)]
 pub struct RectClipLines64 {
     pub rect: Rect64,
@@ -21,9 +23,9 @@ pub struct RectClipLines64 {
 
 // A result with no path.
 pub(crate) fn no_paths() -> Answer
-    ensures { result ≡ Answer.Drawn (record { paths = 0; points = 0; turns = 0 }) }
+    ensures { result ≡ Ok (record { paths = 0; points = 0; turns = 0 }) }
 {
-    Answer::Drawn(Counts {
+    Ok(Counts {
         paths: 0,
         points: 0,
         turns: 0,
@@ -41,21 +43,9 @@ fn deliver_lines(
     requires { Fits store.now work.now s }
     ensures { Delivers (paths_of (walk_of store.now work.now s), 0) coordinates.old lengths.old result coordinates.new lengths.new }
 {
-    let tally = count_pieces(store, work, s);
-    let paths = tally.paths;
-    let points = tally.points;
-    if coordinates.len() < 2 * points {
-        return Answer::Refused(Refusal::ListsTooShort);
-    }
-    if lengths.len() < paths {
-        return Answer::Refused(Refusal::ListsTooShort);
-    }
+    let drawn = fitting(count_pieces(store, work, s), 0, coordinates, lengths)?;
     write_pieces(store, work, s, coordinates, lengths);
-    Answer::Drawn(Counts {
-        paths: paths as u32,
-        points: points as u32,
-        turns: 0,
-    })
+    Ok(drawn)
 }
 
 // The path is walked, unless the rectangle is empty or the path's bounds miss it.
@@ -77,10 +67,8 @@ fn draw_lines(
     if !rect.intersects(bounds) {
         return no_paths();
     }
-    match line_walk(rect, path, store, work) {
-        Step::Walked(s) => deliver_lines(store, work, s, coordinates, lengths),
-        Step::Refused(why) => Answer::Refused(why),
-    }
+    let s = line_walk(rect, path, store, work)?;
+    deliver_lines(store, work, s, coordinates, lengths)
 }
 
 impl RectClipLines64 {
@@ -102,15 +90,10 @@ impl RectClipLines64 {
     ) -> Answer
         ensures { ClipsPath false 0 self.rect path.now (lent coordinates.old lengths.old store.old work.old) result (lent coordinates.new lengths.new store.new work.new) }
     {
-        let rect = self.rect;
-        match admit(rect, path, store.len() / 2, 0, work.len()) {
-            Admission::Refused(why) => Answer::Refused(why),
-            Admission::Admitted(bounds) => {
-                let answer = draw_lines(rect, path, bounds, store, work, coordinates, lengths);
-                clear_store(store);
-                clear_work(work);
-                answer
-            }
-        }
+        let bounds = admit(self.rect, path, store.len() / 2, 0, work.len())?;
+        let answer = draw_lines(self.rect, path, bounds, store, work, coordinates, lengths);
+        clear_store(store);
+        clear_work(work);
+        answer
     }
 }

@@ -45,9 +45,10 @@ pub(crate) fn point_at(list: &[i64], i: usize) -> Point64
     requires { 2 * i + 1 < length list.now }
     ensures { result ≡ pt_at (points_of list.now) i }
 {
-    let x = list[2 * i];
-    let y = list[2 * i + 1];
-    Point64 { x, y }
+    Point64 {
+        x: list[2 * i],
+        y: list[2 * i + 1],
+    }
 }
 
 // The point at position `i` is `p` from now on.
@@ -55,28 +56,19 @@ pub(crate) fn put_point(list: &mut [i64], i: usize, p: Point64)
     requires { 2 * i + 1 < length list.old }
     ensures { list.new ≡ put_point list.old i p }
 {
-    let x = p.x;
-    let y = p.y;
-    list[2 * i] = x;
-    list[2 * i + 1] = y;
+    list[2 * i] = p.x;
+    list[2 * i + 1] = p.y;
 }
 
+// Two of one line each, whose entries differ in type: a generic one would say no more than `fill` does.
 pub(crate) fn clear_store(list: &mut [i64])
     ensures { list.new ≡ replicate (length list.old) (pos 0) }
 {
-    let mut i = 0;
-    while i < list.len() {
-        list[i] = 0;
-        i += 1;
-    }
+    list.fill(0);
 }
 
 pub(crate) fn clear_work(work: &mut [u32])
     ensures { work.new ≡ replicate (length work.old) 0 }
 {
-    let mut i = 0;
-    while i < work.len() {
-        work[i] = 0;
-        i += 1;
-    }
+    work.fill(0);
 }

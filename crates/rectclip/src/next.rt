@@ -1,21 +1,21 @@
 // `get_next_location` of both clippers: from outside, points on the side's line or beyond are passed over; from inside, points
 // are added until one is beyond a side.
-ghost use Rattle.std.specs.Prelude.{◌≡◌, Bool, true, false, ◌+◌, ◌/◌, ◌≤◌, length, drop};
+ghost use Rattle.std.specs.Prelude.{IfOk, ◌≡◌, Bool, true, false, ◌+◌, ◌/◌, ◌≤◌, length, drop};
 ghost use Rattle.plane.specs.Basics.{lead};
 ghost use Rattle.plane.specs.Locations.{is_inside};
 ghost use Rattle.plane.specs.Points.{points_of};
-ghost use Rattle.reference.specs.Walk.{Walk, no_room, next_side, next_outside, next_inside, get_next_location};
-ghost use Rattle.rectclip.specs.Walking.{walk_of};
-ghost use Rattle.rectclip.specs.Moving.{past, past_line, exit_side, LineOf, scanned, Moves, Moved};
+ghost use Rattle.reference.specs.Walk.{Walk, next_side, next_outside, next_inside, get_next_location};
+ghost use Rattle.rectclip.specs.Moving.{past, past_line, exit_side, LineOf, placed};
+ghost use Rattle.rectclip.specs.Steps.{walk, full, points, next_of, Moves};
 
 use crate::lists::point_at;
-use crate::walk::{Step, WalkState, add};
+use crate::walk::Walker;
 use entry::answer::Refusal;
 use plane::location::Location;
 use plane::point::Point64;
 use plane::rect::Rect64;
 
-// A side's line: a bound on x (offset 0) or y (offset 1), and whether outside is below it.
+// A side's line: a bound on x (offset 0) or y (offset 1), and whether outside is below it. No enum of sides: the scan reads one number of each point.
 #[derive(Clone, Copy)]
 pub(crate) struct Line {
     pub offset: usize,
@@ -23,26 +23,11 @@ pub(crate) struct Line {
     pub bound: i64,
 }
 
-// Where a scan of the path ends: at point `i`, with the location that is met there.
+// Where the walk is on the path: at point `i`, at the location `loc`.
 #[derive(Clone, Copy)]
-pub(crate) struct ScanEnd {
+pub(crate) struct Place {
     pub loc: Location,
     pub i: usize,
-}
-
-// The walk and the variables that `get_next_location` changes.
-#[derive(Clone, Copy)]
-pub(crate) struct NextState {
-    pub walk: WalkState,
-    pub loc: Location,
-    pub i: usize,
-}
-
-// A move along the path: where the walk stands afterwards, or a refusal.
-#[derive(Clone, Copy)]
-pub(crate) enum Move {
-    To(NextState),
-    Stopped(Refusal),
 }
 
 // The line of a side.
@@ -50,35 +35,31 @@ fn line_of(rect: Rect64, loc: Location) -> Line
     requires { is_inside loc ≡ false }
     ensures { LineOf rect loc result }
 {
-    let left = rect.left;
-    let top = rect.top;
-    let right = rect.right;
-    let bottom = rect.bottom;
     match loc {
         Location::Left => Line {
             offset: 0,
             low: true,
-            bound: left,
+            bound: rect.left,
         },
         Location::Top => Line {
             offset: 1,
             low: true,
-            bound: top,
+            bound: rect.top,
         },
         Location::Right => Line {
             offset: 0,
             low: false,
-            bound: right,
+            bound: rect.right,
         },
         Location::Bottom => Line {
             offset: 1,
             low: false,
-            bound: bottom,
+            bound: rect.bottom,
         },
         Location::Inside => Line {
             offset: 0,
             low: true,
-            bound: left,
+            bound: rect.left,
         },
     }
 }
@@ -100,15 +81,12 @@ fn scan(path: &[i64], line: Line, from: usize) -> usize
     ensures { result ≡ from + lead (past_line line) (drop from (points_of path.now)) }
 {
     let n = path.len() / 2;
-    let offset = line.offset;
-    let mut i = from;
-    while i < n {
-        if !is_past(line, path[2 * i + offset]) {
+    for i in from..n {
+        if !is_past(line, path[2 * i + line.offset]) {
             return i;
         }
-        i += 1;
     }
-    i
+    from.max(n)
 }
 
 // Where a point is, seen from side `s`: across, beyond a neighbour, or inside.
@@ -131,16 +109,16 @@ fn next_side(rect: Rect64, s: Location, p: Point64) -> Location
 }
 
 // `get_next_location` from outside side `loc`.
-fn next_outside(rect: Rect64, path: &[i64], loc: Location, from: usize) -> ScanEnd
+fn next_outside(rect: Rect64, path: &[i64], loc: Location, from: usize) -> Place
     requires { is_inside loc ≡ false }
-    ensures { (w : Walk) → scanned w result ≡ next_outside rect (points_of path.now) w loc from }
+    ensures { (w : Walk) → placed w result ≡ next_outside rect (points_of path.now) w loc from }
 {
     let i = scan(path, line_of(rect, loc), from);
     if path.len() / 2 <= i {
-        return ScanEnd { loc, i };
+        return Place { loc, i };
     }
     let side = next_side(rect, loc, point_at(path, i));
-    ScanEnd { loc: side, i }
+    Place { loc: side, i }
 }
 
 // The side that a point is beyond, in the order left, right, bottom, top, or inside.
@@ -162,67 +140,35 @@ fn exit_side(rect: Rect64, p: Point64) -> Location
     Location::Inside
 }
 
-// `get_next_location` from inside.
-fn next_inside(
-    rect: Rect64,
-    path: &[i64],
-    store: &mut [i64],
-    work: &mut [u32],
-    s: WalkState,
-    from: usize,
-) -> Move
-    requires { Moves rect path.now store.old work.old s }
-    ensures { Moved (next_inside (no_room (length store.old / 2)) rect (walk_of store.old work.old s) from (drop from (points_of path.now))) from store.new work.new result }
-{
-    let n = path.len() / 2;
-    let mut w = s;
-    let mut i = from;
-    while i < n {
-        let p = point_at(path, i);
-        let side = exit_side(rect, p);
-        if !side.is_inside() {
-            return Move::To(NextState {
-                walk: w,
-                loc: side,
-                i,
-            });
-        }
-        match add(store, work, w, p, false) {
-            Step::Walked(v) => {
-                w = v;
+impl Walker<'_> {
+    // `get_next_location` from inside.
+    fn next_inside(&mut self, from: usize) -> Result<Place, Refusal>
+        ensures moves { Moves (next_inside (full self.old) self.old.rect (walk self.old) from (drop from (points self.old))) self.old self.new result }
+        ensures forth { IfOk result (λ p. from ≤ p.i) }
+    {
+        let n = self.path.len() / 2;
+        for i in from..n {
+            let p = point_at(self.path, i);
+            let loc = exit_side(self.rect, p);
+            if !loc.is_inside() {
+                return Ok(Place { loc, i });
             }
-            Step::Refused(k) => {
-                return Move::Stopped(k);
-            }
+            self.add(p, false)?;
         }
-        i += 1;
+        Ok(Place {
+            loc: Location::Inside,
+            i: from.max(n),
+        })
     }
-    Move::To(NextState {
-        walk: w,
-        loc: Location::Inside,
-        i,
-    })
-}
 
-// `get_next_location`, of both clippers.
-pub(crate) fn get_next_location(
-    rect: Rect64,
-    path: &[i64],
-    store: &mut [i64],
-    work: &mut [u32],
-    s: NextState,
-) -> Move
-    requires { Moves rect path.now store.old work.old s.walk }
-    ensures { Moved (get_next_location (no_room (length store.old / 2)) rect (points_of path.now) (walk_of store.old work.old s.walk) s.loc s.i) s.i store.new work.new result }
-{
-    let walk = s.walk;
-    let loc = s.loc;
-    let from = s.i;
-    if loc.is_inside() {
-        return next_inside(rect, path, store, work, walk, from);
+    // `get_next_location`, of both clippers.
+    pub(crate) fn get_next_location(&mut self, at: Place) -> Result<Place, Refusal>
+        ensures moves { Moves (get_next_location (full self.old) self.old.rect (points self.old) (walk self.old) at.loc at.i) self.old self.new result }
+        ensures forth { IfOk result (λ p. at.i ≤ p.i) }
+    {
+        if at.loc.is_inside() {
+            return self.next_inside(at.i);
+        }
+        Ok(next_outside(self.rect, self.path, at.loc, at.i))
     }
-    let met = next_outside(rect, path, loc, from);
-    let side = met.loc;
-    let i = met.i;
-    Move::To(NextState { walk, loc: side, i })
 }

@@ -4,16 +4,11 @@ ghost use Rattle.rectclip.specs.Walking.{walk_of, Fits};
 ghost use Rattle.rectclip.specs.Pieces.{paths_of, start_of, Tallied, Copies, Copied, Writes, Written};
 
 use crate::lists::{RESULT, get, point_at, put_point};
+use crate::paths::Counts;
 use crate::walk::WalkState;
 
-// How many paths are returned, and how many points they have.
-#[derive(Clone, Copy)]
-pub(crate) struct Tally {
-    pub paths: usize,
-    pub points: usize,
-}
-
-// Where result `j` starts; behind the last result, where the points end.
+// Where result `j` starts; behind the last result, where the points end. `Fits` stays in the contracts here and below: the walker is let go by then, and
+// its lists are only read.
 fn start_of(work: &[u32], s: WalkState, j: usize) -> usize
     requires { 16 * s.starts ≤ length work.now }
     ensures { result ≡ start_of work.now s j }
@@ -25,24 +20,23 @@ fn start_of(work: &[u32], s: WalkState, j: usize) -> usize
 }
 
 // The paths that are returned, counted.
-pub(crate) fn count_pieces(store: &[i64], work: &[u32], s: WalkState) -> Tally
+pub(crate) fn count_pieces(store: &[i64], work: &[u32], s: WalkState) -> Counts
     requires { Fits store.now work.now s }
     ensures { Tallied store.now work.now s result }
 {
-    let starts = s.starts;
-    let mut paths: usize = 0;
-    let mut points: usize = 0;
-    let mut j = 0;
-    while j < starts {
+    let mut tally = Counts {
+        paths: 0,
+        points: 0,
+    };
+    for j in 0..s.starts {
         let from = start_of(work, s, j);
-        j += 1;
-        let to = start_of(work, s, j);
+        let to = start_of(work, s, j + 1);
         if from + 1 < to {
-            paths += 1;
-            points += to - from;
+            tally.paths += 1;
+            tally.points += to - from;
         }
     }
-    Tally { paths, points }
+    tally
 }
 
 // Points `from` to `to` of the store are copied to place `at` of a list.
@@ -50,16 +44,12 @@ pub(crate) fn copy_points(store: &[i64], from: usize, to: usize, list: &mut [i64
     requires { Copies store.now list.old from to at }
     ensures { Copied store.now from to at list.old list.new }
 {
-    let mut i = from;
-    let mut k = at;
-    while i < to {
-        put_point(list, k, point_at(store, i));
-        i += 1;
-        k += 1;
+    for i in from..to {
+        put_point(list, at + (i - from), point_at(store, i));
     }
 }
 
-// The paths that are returned, written to the leading entries of the two lists.
+// The paths that are returned, written to the leading entries of the two lists. A loop of its own behind `count_pieces`: refusal 11 writes nothing.
 pub(crate) fn write_pieces(
     store: &[i64],
     work: &[u32],
@@ -70,14 +60,11 @@ pub(crate) fn write_pieces(
     requires { Writes store.now work.now s coordinates.old lengths.old }
     ensures { Written (paths_of (walk_of store.now work.now s)) coordinates.old lengths.old coordinates.new lengths.new }
 {
-    let results = s.starts;
     let mut paths: usize = 0;
     let mut points: usize = 0;
-    let mut j = 0;
-    while j < results {
+    for j in 0..s.starts {
         let from = start_of(work, s, j);
-        j += 1;
-        let to = start_of(work, s, j);
+        let to = start_of(work, s, j + 1);
         if from + 1 < to {
             copy_points(store, from, to, coordinates, points);
             lengths[paths] = (to - from) as u32;

@@ -11,7 +11,7 @@ use crate::segment::cross_product_sign;
 use plane::location::PointInPolygonResult;
 use plane::point::Point64;
 
-// The variables of the scan round the polygon.
+// The variables of the scan round the polygon. `InPass` stays in the contracts: it is of the scan with the polygon, whose length bounds it.
 #[derive(Clone, Copy)]
 pub(crate) struct Scan {
     curr_idx: usize,
@@ -42,15 +42,13 @@ fn first_off(pt: Point64, polygon: &[i64]) -> usize
     ensures within { result ≤ length polygon.now / 2 }
 {
     let n = polygon.len() / 2;
-    let mut i: usize = 0;
-    while i < n {
+    for i in 0..n {
         let p = point_at(polygon, i);
         if p.y != pt.y {
             return i;
         }
-        i += 1;
     }
-    i
+    n
 }
 
 // Whether y is on the side that the scan is on.
@@ -77,8 +75,7 @@ fn skipped(
     ensures within { result ≤ length polygon.now / 2 }
 {
     let n = polygon.len() / 2;
-    let mut i = from;
-    while i < n {
+    for i in from..n {
         if wrap & (first_idx <= i) {
             return i;
         }
@@ -86,9 +83,8 @@ fn skipped(
         if !same_side(is_above, p.y, pt.y) {
             return i;
         }
-        i += 1;
     }
-    i
+    n
 }
 
 // How the edge from prev to curr, whose end is not at the point's height, passes the point.
@@ -280,8 +276,7 @@ fn scan_loop(
     ensures { result ≡ scan_loop pt (points_of polygon.now) first_idx passes starting_above (scan_of start) }
 {
     let mut s = start;
-    let mut left = passes;
-    while 0 < left {
+    for _pass in 0..passes {
         let step = scan_pass(pt, polygon, first_idx, s);
         match step {
             ScanStep::OnEdge => {
@@ -294,7 +289,6 @@ fn scan_loop(
                 s = t;
             }
         }
-        left -= 1;
     }
     scan_answer(pt, polygon, starting_above, s)
 }
@@ -323,12 +317,6 @@ pub(crate) fn point_in_polygon(pt: Point64, polygon: &[i64]) -> PointInPolygonRe
     scan_loop(pt, polygon, first_idx, 2 * n + 2, is_above, start)
 }
 
-// The count of `path1_contains_path2`: points outside less points inside.
-#[derive(Clone, Copy)]
-pub(crate) struct Tally {
-    io_count: i64,
-}
-
 // The count with one more answer.
 fn counted(io_count: i64, answer: PointInPolygonResult) -> i64
     requires { nat_abs io_count ≤ 1 }
@@ -346,19 +334,16 @@ fn contains_from(path1: &[i64], path2: &[i64]) -> i64
     requires { BothPaths path1.now path2.now }
     ensures { result ≡ contains_from (points_of path1.now) (pos 0) (points_of path2.now) }
 {
-    let n = path2.len() / 2;
-    let mut tally = Tally { io_count: 0 };
-    let mut i: usize = 0;
-    while i < n {
+    let mut io_count = 0;
+    for i in 0..path2.len() / 2 {
         let pt = point_at(path2, i);
-        let io = counted(tally.io_count, point_in_polygon(pt, path1));
+        let io = counted(io_count, point_in_polygon(pt, path1));
         if (io < -1) | (1 < io) {
             return io;
         }
-        tally = Tally { io_count: io };
-        i += 1;
+        io_count = io;
     }
-    tally.io_count
+    io_count
 }
 
 // Whether path1 contains path2: its points are inside more than outside, up to the first that tells.

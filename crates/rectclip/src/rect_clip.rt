@@ -10,9 +10,9 @@ use crate::clipping::clip_walked;
 use crate::deliver::{deliver_copy, deliver_paths};
 use crate::lines::no_paths;
 use crate::lists::{clear_store, clear_work};
-use crate::outline::{Outline, Outlined, walk_closed};
+use crate::outline::{Outline, walk_closed};
 use crate::walked::walked_arena;
-use entry::admission::{Admission, admit};
+use entry::admission::admit;
 use entry::answer::Answer;
 use plane::rect::Rect64;
 
@@ -36,9 +36,9 @@ fn clip_outline(
     ensures { Gives (clip_walked allowance rect (walked_of store.now work.old o)) coordinates.old lengths.old result coordinates.new lengths.new }
 {
     let slots = store.len() / 2 + allowance + 1;
-    let s = walked_arena(work, slots, o);
-    let clipped = clip_walked(store, work, s, rect, allowance);
-    deliver_paths(store, work, clipped, coordinates, lengths)
+    let mut arena = walked_arena(store, work, slots, o);
+    let clipped = clip_walked(&mut arena, rect, allowance)?;
+    deliver_paths(&arena, clipped, coordinates, lengths)
 }
 
 // The path is walked, and its outline clipped.
@@ -55,10 +55,8 @@ fn clip_path(
     requires { WalkClips rect path.now bounds allowance store.old work.old }
     ensures { Gives (walk_drawing (no_room (length store.old / 2)) allowance rect (points_of path.now)) coordinates.old lengths.old result coordinates.new lengths.new }
 {
-    match walk_closed(rect, path, bounds, store, work) {
-        Outlined::Done(o) => clip_outline(rect, allowance, store, work, o, coordinates, lengths),
-        Outlined::Refused(why) => Answer::Refused(why),
-    }
+    let o = walk_closed(rect, path, bounds, store, work)?;
+    clip_outline(rect, allowance, store, work, o, coordinates, lengths)
 }
 
 // Nothing under an empty rectangle, of less than three points, and of bounds that miss it; the path itself where its bounds are in
@@ -121,25 +119,20 @@ impl RectClip64 {
     ) -> Answer
         ensures { ClipsPath true allowance self.rect path.now (lent coordinates.old lengths.old store.old work.old) result (lent coordinates.new lengths.new store.new work.new) }
     {
-        let rect = self.rect;
         let most = allowance as usize;
-        match admit(rect, path, store.len() / 2, most, work.len()) {
-            Admission::Refused(why) => Answer::Refused(why),
-            Admission::Admitted(bounds) => {
-                let answer = draw_closed(
-                    rect,
-                    path,
-                    bounds,
-                    most,
-                    store,
-                    work,
-                    coordinates,
-                    lengths,
-                );
-                clear_store(store);
-                clear_work(work);
-                answer
-            }
-        }
+        let bounds = admit(self.rect, path, store.len() / 2, most, work.len())?;
+        let answer = draw_closed(
+            self.rect,
+            path,
+            bounds,
+            most,
+            store,
+            work,
+            coordinates,
+            lengths,
+        );
+        clear_store(store);
+        clear_work(work);
+        answer
     }
 }

@@ -1,16 +1,13 @@
 // Rings split and rejoined along a side, with their owners and results.
 ghost use Rattle.std.specs.Prelude.{◌≡◌, ◌<◌};
 ghost use Rattle.reference.specs.Tidy.{is_horz, cw_is_toward_larger, four_of, overlap, relink};
-ghost use Rattle.rectclip.specs.Arenas.{arena_at, Holds, Leaves, Becomes};
-ghost use Rattle.rectclip.specs.Stored.{points_in, Drawn};
+ghost use Rattle.rectclip.specs.Changes.{arena_of, pts_of, Leaves, Becomes};
 ghost use Rattle.rectclip.specs.Turns.{four, FourIn, Fourth, joined, split, set_roots, Groups, regrouped};
 
-use crate::arena::{Sizes, owner_of, prev_of, push_result, set_next, set_prev, set_result};
-use crate::lists::NONE;
-use crate::rings::{point_of, set_new_owner};
+use crate::arena::Arena;
 use plane::direction::{has_horz_overlap, has_vert_overlap};
 
-// The four nodes of a split or a rejoining.
+// The four nodes of a split or a rejoining. That they are the arena's stays in the contracts (`FourIn`): it is no fact of the four alone.
 #[derive(Clone, Copy)]
 pub(crate) struct Four {
     pub p1: usize,
@@ -19,7 +16,7 @@ pub(crate) struct Four {
     pub p2a: usize,
 }
 
-// Whether side `idx` runs along x: top and bottom do.
+// Whether side `idx` runs along x: top and bottom do. A side is a number here and below, as in the Rust: it stands for two edge lists.
 pub(crate) fn is_horz(idx: usize) -> bool
     ensures { result ≡ is_horz idx }
 {
@@ -34,12 +31,12 @@ pub(crate) fn cw_is_toward_larger(idx: usize) -> bool
 }
 
 // The two entries and the nodes before them, in the order of the side.
-pub(crate) fn four_of(work: &[u32], s: Sizes, idx: usize, root1: usize, root2: usize) -> Four
-    requires { Holds work.now s × (root1 < s.nodes) × (root2 < s.nodes) }
-    ensures { Fourth s.nodes result (four_of (cw_is_toward_larger idx) (arena_at work.now s) root1 root2) }
+pub(crate) fn four_of(a: &Arena, idx: usize, root1: usize, root2: usize) -> Four
+    requires { (root1 < a.now.sizes.nodes) × (root2 < a.now.sizes.nodes) }
+    ensures { Fourth a.now.sizes.nodes result (four_of (cw_is_toward_larger idx) (arena_of a.now) root1 root2) }
 {
-    let prev1 = prev_of(work, s, root1);
-    let prev2 = prev_of(work, s, root2);
+    let prev1 = a.prev_of(root1);
+    let prev2 = a.prev_of(root2);
     if cw_is_toward_larger(idx) {
         return Four {
             p1: prev1,
@@ -57,88 +54,84 @@ pub(crate) fn four_of(work: &[u32], s: Sizes, idx: usize, root1: usize, root2: u
 }
 
 // Whether the two edges overlap.
-pub(crate) fn overlap(store: &[i64], s: Sizes, idx: usize, f: Four) -> bool
-    requires { Drawn store.now s.nodes × FourIn s.nodes f }
-    ensures { result ≡ overlap (points_in store.now s.nodes) (is_horz idx) (four f) }
+pub(crate) fn overlap(a: &Arena, idx: usize, f: Four) -> bool
+    requires { FourIn a.now.sizes.nodes f }
+    ensures { result ≡ overlap (pts_of a.now) (is_horz idx) (four f) }
 {
-    let a = point_of(store, s, f.p1);
-    let b = point_of(store, s, f.p1a);
-    let c = point_of(store, s, f.p2);
-    let d = point_of(store, s, f.p2a);
+    let p = a.point_of(f.p1);
+    let q = a.point_of(f.p1a);
+    let r = a.point_of(f.p2);
+    let t = a.point_of(f.p2a);
     if is_horz(idx) {
-        return has_horz_overlap(a, b, c, d);
+        return has_horz_overlap(p, q, r, t);
     }
-    has_vert_overlap(a, b, c, d)
+    has_vert_overlap(p, q, r, t)
 }
 
-// "Do the split or re-join"
-pub(crate) fn relink(work: &mut [u32], s: Sizes, idx: usize, f: Four)
-    requires { Holds work.old s × FourIn s.nodes f }
-    ensures { Leaves work.old work.new s (relink (cw_is_toward_larger idx) (arena_at work.old s) (four f)) }
+// "Do the split or re-join". Four writes each way, as in the Rust: one form over which link is meant would hide it.
+pub(crate) fn relink(a: &mut Arena, idx: usize, f: Four)
+    requires { FourIn a.old.sizes.nodes f }
+    ensures { Leaves a.old a.new (relink (cw_is_toward_larger idx) (arena_of a.old) (four f)) }
 {
     let p1 = f.p1;
     let p1a = f.p1a;
     let p2 = f.p2;
     let p2a = f.p2a;
     if cw_is_toward_larger(idx) {
-        set_next(work, s, p1, p2);
-        set_prev(work, s, p2, p1);
-        set_prev(work, s, p1a, p2a);
-        set_next(work, s, p2a, p1a);
+        a.set_next(p1, p2);
+        a.set_prev(p2, p1);
+        a.set_prev(p1a, p2a);
+        a.set_next(p2a, p1a);
         return;
     }
-    set_prev(work, s, p1, p2);
-    set_next(work, s, p2, p1);
-    set_next(work, s, p1a, p2a);
-    set_prev(work, s, p2a, p1a);
+    a.set_prev(p1, p2);
+    a.set_next(p2, p1);
+    a.set_next(p1a, p2a);
+    a.set_prev(p2a, p1a);
 }
 
 // The ring of p2 becomes a part of that of p1.
-pub(crate) fn join(work: &mut [u32], s: Sizes, idx: usize, f: Four)
-    requires { Holds work.old s × FourIn s.nodes f }
-    ensures { Leaves work.old work.new s (joined idx s.nodes (arena_at work.old s) (four f)) }
+pub(crate) fn join(a: &mut Arena, idx: usize, f: Four)
+    requires { FourIn a.old.sizes.nodes f }
+    ensures { Leaves a.old a.new (joined idx a.old.sizes.nodes (arena_of a.old) (four f)) }
 {
-    let p1 = f.p1;
-    let p2 = f.p2;
-    let from = owner_of(work, s, p2);
-    let to = owner_of(work, s, p1);
-    set_result(work, s, from, NONE);
-    set_new_owner(work, s, p2, to);
-    relink(work, s, idx, f);
+    let from = a.owner_of(f.p2);
+    let to = a.owner_of(f.p1);
+    a.set_result(from, None);
+    a.set_new_owner(f.p2, to);
+    relink(a, idx, f);
 }
 
 // The ring of p1a is cut off: it is a result of its own.
-pub(crate) fn split(work: &mut [u32], s: Sizes, idx: usize, f: Four) -> Sizes
-    requires { Holds work.old s × FourIn s.nodes f × (s.results < s.slots) }
-    ensures { Becomes work.old work.new s result (split idx s.nodes (arena_at work.old s) (four f)) }
+pub(crate) fn split(a: &mut Arena, idx: usize, f: Four)
+    requires { FourIn a.old.sizes.nodes f × (a.old.sizes.results < a.old.sizes.slots) }
+    ensures { Becomes a.old a.new (split idx a.old.sizes.nodes (arena_of a.old) (four f)) }
 {
-    let p1a = f.p1a;
-    relink(work, s, idx, f);
-    let n = s.results;
-    let more = push_result(work, s, p1a);
-    set_new_owner(work, more, p1a, n);
-    more
+    relink(a, idx, f);
+    let n = a.sizes.results;
+    a.push_result(f.p1a);
+    a.set_new_owner(f.p1a, n);
 }
 
 // The rings split or rejoined, with their owners and results.
-pub(crate) fn regroup(work: &mut [u32], s: Sizes, idx: usize, f: Four, rejoining: bool) -> Sizes
-    requires { Holds work.old s × FourIn s.nodes f × (s.results < s.slots) }
-    ensures { Groups work.old work.new s result (regrouped idx s.nodes (arena_at work.old s) (four f) rejoining) }
+pub(crate) fn regroup(a: &mut Arena, idx: usize, f: Four, rejoining: bool)
+    requires { FourIn a.old.sizes.nodes f × (a.old.sizes.results < a.old.sizes.slots) }
+    ensures { Groups a.old a.new (regrouped idx a.old.sizes.nodes (arena_of a.old) (four f) rejoining) }
 {
     if rejoining {
-        join(work, s, idx, f);
-        return s;
+        join(a, idx, f);
+        return;
     }
-    split(work, s, idx, f)
+    split(a, idx, f);
 }
 
 // The results of the rings of both nodes are those nodes.
-pub(crate) fn set_roots(work: &mut [u32], s: Sizes, op: usize, op2: usize)
-    requires { Holds work.old s × (op < s.nodes) × (op2 < s.nodes) }
-    ensures { Leaves work.old work.new s (set_roots (arena_at work.old s) op op2) }
+pub(crate) fn set_roots(a: &mut Arena, op: usize, op2: usize)
+    requires { (op < a.old.sizes.nodes) × (op2 < a.old.sizes.nodes) }
+    ensures { Leaves a.old a.new (set_roots (arena_of a.old) op op2) }
 {
-    let owner = owner_of(work, s, op);
-    let owner2 = owner_of(work, s, op2);
-    set_result(work, s, owner, op);
-    set_result(work, s, owner2, op2);
+    let owner = a.owner_of(op);
+    let owner2 = a.owner_of(op2);
+    a.set_result(owner, Some(op));
+    a.set_result(owner2, Some(op2));
 }

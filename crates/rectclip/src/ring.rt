@@ -1,9 +1,10 @@
 // The arena that the walk leaves: one ring of the walked points in their order.
 ghost use Rattle.std.specs.Prelude.{◌≡◌, ◌<◌, ◌≤◌, ◌*◌, ◌+◌, length};
 ghost use Rattle.rectclip.specs.Memory.{Room};
+ghost use Rattle.rectclip.specs.Stored.{Drawn};
 ghost use Rattle.rectclip.specs.Rings.{Placed, after, Linked, Built};
 
-use crate::arena::Sizes;
+use crate::arena::{Arena, Sizes};
 use crate::lists::{EDGE, NEXT, NONE, OWNER, PREV, RESULT, store};
 
 // Node `i` is new: its links, owner 0, in no edge list.
@@ -31,33 +32,47 @@ pub(crate) fn link_nodes(work: &mut [u32], n: usize)
     ensures { Linked work.old work.new n }
 {
     let mut prev = n - 1;
-    let mut i = 0;
-    while i < n {
+    for i in 0..n {
         put_node(work, i, after(n, i), prev);
         prev = i;
-        i += 1;
     }
 }
 
-// The arena of `n` walked points in `slots` slots: the sizes.
-pub(crate) fn build_ring(work: &mut [u32], slots: usize, n: usize) -> Sizes
-    requires { Room slots work.old × (n ≤ slots) }
-    ensures { Built work.old work.new slots n result }
+// The arena of `n` walked points, which the list `points` holds, in `slots` slots.
+pub(crate) fn build_ring<'a>(
+    points: &'a [i64],
+    work: &'a mut [u32],
+    slots: usize,
+    n: usize,
+) -> Arena<'a>
+    requires { Room slots work.old × (n ≤ slots) × Drawn points.now n }
+    ensures built { Built points.now work.old slots n result }
+    ensures name { result.work.ghost_name ≡ work.entry.ghost_name }
 {
     if n == 0 {
-        return Sizes {
+        let sizes = Sizes {
             slots,
             nodes: 0,
             results: 0,
             lens: [0; 8],
         };
+        return Arena {
+            store: points,
+            work,
+            sizes,
+        };
     }
     link_nodes(work, n);
     store(work, RESULT, 0, n - 1);
-    Sizes {
+    let sizes = Sizes {
         slots,
         nodes: n,
         results: 1,
         lens: [0; 8],
+    };
+    Arena {
+        store: points,
+        work,
+        sizes,
     }
 }

@@ -1,194 +1,148 @@
-// Rings of nodes: a node taken out, a ring given to a new owner, and points on a line with their neighbours dropped.
-ghost use Rattle.std.specs.Prelude.{◌≡◌, ◌<◌, ◌+◌, ◌*◌, length};
-ghost use Rattle.reference.specs.Arena.{next_of, pt_of, is_flat, set_new_owner, drop_collinear_pass, drop_collinear};
+// Rings of nodes: a node taken out, and points on a line with their neighbours dropped.
+ghost use Rattle.std.specs.Prelude.{◌≡◌, ◌<◌, ◌+◌, ◌*◌};
+ghost use Rattle.reference.specs.Arena.{next_of, is_flat, drop_collinear_pass, drop_collinear};
 ghost use Rattle.reference.specs.Tidy.{is_stub};
 ghost use Rattle.reference.specs.Clip.{straighten_pass, straighten};
-ghost use Rattle.rectclip.specs.Arenas.{arena_at, Holds, Leaves};
-ghost use Rattle.rectclip.specs.Stored.{points_in, Drawn};
-ghost use Rattle.rectclip.specs.Rings.{Unlinked, Passing, Passed};
+ghost use Rattle.rectclip.specs.Changes.{arena_of, pts_of};
+ghost use Rattle.rectclip.specs.Rings.{Unlinked, Passed, Dropped, EndsAt};
 
-use crate::arena::{Sizes, next_of, prev_of, set_next, set_owner, set_prev};
-use crate::lists::{NONE, point_at};
+use crate::arena::Arena;
 use crate::segment::is_collinear;
-use plane::point::Point64;
 
-// The nodes on both sides of one that was taken out of its ring; NONE both, where it was alone.
+// The nodes on both sides of one that was taken out of its ring.
 #[derive(Clone, Copy)]
 pub(crate) struct Neighbours {
     pub prev: usize,
     pub next: usize,
 }
 
-// The two nodes of a loop that goes round a ring.
+// The two nodes of a loop that goes round a ring; the second is gone where nothing is left of the ring.
 #[derive(Clone, Copy)]
 pub(crate) struct Round {
     pub op: usize,
-    pub op2: usize,
+    pub op2: Option<usize>,
 }
 
-// `arena[i].pt`
-pub(crate) fn point_of(store: &[i64], s: Sizes, i: usize) -> Point64
-    requires { Drawn store.now s.nodes × (i < s.nodes) }
-    ensures { result ≡ pt_of (points_in store.now s.nodes) i }
+// `unlink_op` and `unlink_op_back` in one: the node is taken out of its ring, and both neighbours are handed back, if it has any.
+pub(crate) fn unlink(a: &mut Arena, op: usize) -> Option<Neighbours>
+    requires { op < a.old.sizes.nodes }
+    ensures { Unlinked a.old a.new op result }
 {
-    point_at(store, i)
-}
-
-// `unlink_op` and `unlink_op_back` in one: the node is taken out of its ring, and both neighbours are handed back.
-pub(crate) fn unlink(work: &mut [u32], s: Sizes, op: usize) -> Neighbours
-    requires { Holds work.old s × (op < s.nodes) }
-    ensures { Unlinked work.old work.new s op result }
-{
-    let next = next_of(work, s, op);
+    let next = a.next_of(op);
     if next == op {
-        return Neighbours {
-            prev: NONE,
-            next: NONE,
-        };
+        return None;
     }
-    let prev = prev_of(work, s, op);
-    set_next(work, s, prev, next);
-    set_prev(work, s, next, prev);
-    Neighbours { prev, next }
-}
-
-// Each node of the ring of `op` has the owner `owner` from now on.
-pub(crate) fn set_new_owner(work: &mut [u32], s: Sizes, op: usize, owner: usize)
-    requires { Holds work.old s × (op < s.nodes) × (owner < s.results) }
-    ensures { Leaves work.old work.new s (set_new_owner s.nodes (arena_at work.old s) op owner) }
-{
-    set_owner(work, s, op, owner);
-    let mut op2 = next_of(work, s, op);
-    let mut left = s.nodes;
-    while left > 0 {
-        if op2 == op {
-            return;
-        }
-        set_owner(work, s, op2, owner);
-        op2 = next_of(work, s, op2);
-        left -= 1;
-    }
+    let prev = a.prev_of(op);
+    a.set_next(prev, next);
+    a.set_prev(next, prev);
+    Some(Neighbours { prev, next })
 }
 
 // Whether the ring of the node has one or two nodes: `next == prev`.
-pub(crate) fn is_stub(work: &[u32], s: Sizes, op: usize) -> bool
-    requires { Holds work.now s × (op < s.nodes) }
-    ensures { result ≡ is_stub (arena_at work.now s) op }
+pub(crate) fn is_stub(a: &Arena, op: usize) -> bool
+    requires { op < a.now.sizes.nodes }
+    ensures { result ≡ is_stub (arena_of a.now) op }
 {
-    let next = next_of(work, s, op);
-    let prev = prev_of(work, s, op);
-    next == prev
+    a.next_of(op) == a.prev_of(op)
 }
 
 // Whether the node is on a line with its neighbours.
-pub(crate) fn is_flat(store: &[i64], work: &[u32], s: Sizes, op: usize) -> bool
-    requires { Passing store.now work.now s op op }
-    ensures { result ≡ is_flat (points_in store.now s.nodes) (arena_at work.now s) op }
+pub(crate) fn is_flat(a: &Arena, op: usize) -> bool
+    requires { op < a.now.sizes.nodes }
+    ensures { result ≡ is_flat (pts_of a.now) (arena_of a.now) op }
 {
-    let prev = prev_of(work, s, op);
-    let next = next_of(work, s, op);
-    is_collinear(
-        point_of(store, s, prev),
-        point_of(store, s, op),
-        point_of(store, s, next),
-    )
+    let prev = a.prev_of(op);
+    let next = a.next_of(op);
+    is_collinear(a.point_of(prev), a.point_of(op), a.point_of(next))
 }
 
 // One pass of "Remove collinear points".
-pub(crate) fn drop_collinear_pass(
-    store: &[i64],
-    work: &mut [u32],
-    s: Sizes,
-    op: usize,
-    op2: usize,
-) -> Round
-    requires { Passing store.now work.old s op op2 }
-    ensures { Passed work.old work.new s result (drop_collinear_pass (points_in store.now s.nodes) (arena_at work.old s) op op2) }
+pub(crate) fn drop_collinear_pass(a: &mut Arena, op: usize, op2: usize) -> Round
+    requires { (op < a.old.sizes.nodes) × (op2 < a.old.sizes.nodes) }
+    ensures { Passed a.old a.new result (drop_collinear_pass (pts_of a.old) (arena_of a.old) op op2) }
 {
-    if is_flat(store, work, s, op2) {
-        let sides = unlink(work, s, op2);
-        let back = sides.prev;
-        if op2 == op {
-            if back != NONE {
-                let before = prev_of(work, s, back);
-                return Round {
-                    op: before,
-                    op2: back,
-                };
-            }
-        }
-        return Round { op, op2: back };
+    if !is_flat(a, op2) {
+        let next = a.next_of(op2);
+        return Round {
+            op,
+            op2: Some(next),
+        };
     }
-    let next = next_of(work, s, op2);
-    Round { op, op2: next }
+    let Some(sides) = unlink(a, op2) else {
+        return Round { op, op2: None };
+    };
+    let back = sides.prev;
+    if op2 == op {
+        let before = a.prev_of(back);
+        return Round {
+            op: before,
+            op2: Some(back),
+        };
+    }
+    Round {
+        op,
+        op2: Some(back),
+    }
 }
 
-// "Remove collinear points" of the ring of `start`: where the loop ends.
-pub(crate) fn drop_collinear(store: &[i64], work: &mut [u32], s: Sizes, start: usize) -> Round
-    requires { Passing store.now work.old s start start }
-    ensures { Passed work.old work.new s result (drop_collinear (points_in store.now s.nodes) (2 * s.nodes + 1) (arena_at work.old s) start start) }
+// "Remove collinear points" of the ring of `start`: where the loop ends, if anything of the ring is left.
+pub(crate) fn drop_collinear(a: &mut Arena, start: usize) -> Option<usize>
+    requires { start < a.old.sizes.nodes }
+    ensures { Dropped a.old a.new result (drop_collinear (pts_of a.old) (2 * a.old.sizes.nodes + 1) (arena_of a.old) start start) }
 {
     let mut op = start;
     let mut op2 = start;
-    let mut left = 2 * s.nodes + 1;
-    while left > 0 {
-        let at = drop_collinear_pass(store, work, s, op, op2);
+    for _pass in 0..2 * a.sizes.nodes + 1 {
+        let at = drop_collinear_pass(a, op, op2);
         op = at.op;
-        op2 = at.op2;
-        if op2 == NONE {
-            return at;
-        }
+        op2 = at.op2?;
         if op2 == op {
-            return at;
+            return Some(op);
         }
-        left -= 1;
     }
-    Round { op, op2 }
+    Some(op)
 }
 
 // One pass of the first loop of `get_path`.
-pub(crate) fn straighten_pass(
-    store: &[i64],
-    work: &mut [u32],
-    s: Sizes,
-    op: usize,
-    op2: usize,
-) -> Round
-    requires { Passing store.now work.old s op op2 }
-    ensures { Passed work.old work.new s result (straighten_pass (points_in store.now s.nodes) (arena_at work.old s) op op2) }
+pub(crate) fn straighten_pass(a: &mut Arena, op: usize, op2: usize) -> Round
+    requires { (op < a.old.sizes.nodes) × (op2 < a.old.sizes.nodes) }
+    ensures { Passed a.old a.new result (straighten_pass (pts_of a.old) (arena_of a.old) op op2) }
 {
-    if is_flat(store, work, s, op2) {
-        let before = prev_of(work, s, op2);
-        let sides = unlink(work, s, op2);
+    if !is_flat(a, op2) {
+        let next = a.next_of(op2);
         return Round {
-            op: before,
-            op2: sides.next,
+            op,
+            op2: Some(next),
         };
     }
-    let next = next_of(work, s, op2);
-    Round { op, op2: next }
+    let before = a.prev_of(op2);
+    let Some(sides) = unlink(a, op2) else {
+        return Round {
+            op: before,
+            op2: None,
+        };
+    };
+    Round {
+        op: before,
+        op2: Some(sides.next),
+    }
 }
 
-// The first loop of `get_path`, from the node `start` on: where it ends.
-pub(crate) fn straighten(store: &[i64], work: &mut [u32], s: Sizes, start: usize) -> Round
-    requires { Passing store.now work.old s start start }
-    ensures { Passed work.old work.new s result (straighten (points_in store.now s.nodes) (s.nodes * s.nodes) (arena_at work.old s) start (next_of (arena_at work.old s) start)) }
+// The first loop of `get_path`, from the node `start` on: where it ends, if anything of the ring is left.
+pub(crate) fn straighten(a: &mut Arena, start: usize) -> Option<usize>
+    requires { start < a.old.sizes.nodes }
+    ensures { EndsAt a.old a.new result (straighten (pts_of a.old) (a.old.sizes.nodes * a.old.sizes.nodes) (arena_of a.old) start (next_of (arena_of a.old) start)) }
 {
     let mut op = start;
-    let mut op2 = next_of(work, s, start);
-    let n = s.nodes;
-    let mut left = n * n;
-    while left > 0 {
-        if op2 == NONE {
-            return Round { op, op2 };
-        }
+    let mut op2 = a.next_of(start);
+    let n = a.sizes.nodes;
+    for _pass in 0..n * n {
         if op2 == op {
-            return Round { op, op2 };
+            return Some(op2);
         }
-        let at = straighten_pass(store, work, s, op, op2);
+        let at = straighten_pass(a, op, op2);
         op = at.op;
-        op2 = at.op2;
-        left -= 1;
+        op2 = at.op2?;
     }
-    Round { op, op2 }
+    Some(op2)
 }

@@ -1,13 +1,13 @@
 // Signs of cross products, and the crossing of a segment and an edge in binary64: each operation rounds once, none fused.
 ghost use Rattle.std.specs.Prelude.{◌≡◌};
 ghost use Rattle.rounding.specs.Coordinate.{Limit, float};
-ghost use Rattle.plane.specs.Limit.{AllLimited};
+ghost use Rattle.plane.specs.Limit.{Limited};
 ghost use Rattle.plane.specs.Signs.{cross_product_sign, is_collinear, cross_product_is_negative, is_clockwise_dir};
 ghost use Rattle.plane.specs.Segment.{working_of, crossing_of, point_at, settled_of, intersection};
 ghost use Rattle.plane.specs.Found.{NearCrossing};
 ghost use Rattle.rectclip.specs.Bounds.{Turn, LimitedTurn, cross_products};
 
-use plane::crossing::{Crossing, Meeting, Working};
+use plane::crossing::{Crossing, Working};
 use plane::location::Location;
 use plane::point::Point64;
 use rounding::to_whole;
@@ -19,7 +19,16 @@ pub(crate) struct Products {
     pub cd: i64,
 }
 
-// The products of the turn p1, p2, p3.
+// A segment of the path, or an edge of the rectangle: its ends are within the coordinate limit.
+#[derive(Clone, Copy)]
+pub(crate) struct Segment {
+    pub from: Point64,
+    pub to: Point64,
+    ghost start: { Limited from },
+    ghost end: { Limited to },
+}
+
+// The products of the turn p1, p2, p3. That they are in reach stays in the contracts: a struct for one call of three points is no plainer.
 fn cross_products(p1: Point64, p2: Point64, p3: Point64) -> Products
     requires { Turn p1 p2 p3 }
     ensures { result ≡ cross_products p1 p2 p3 }
@@ -33,7 +42,8 @@ fn cross_products(p1: Point64, p2: Point64, p3: Point64) -> Products
     Products { ab, cd }
 }
 
-// The sign of the cross product of the turn p1, p2, p3: 1, -1 or 0.
+// The sign of the cross product of the turn p1, p2, p3: 1, -1 or 0, a number compared with 0, as in the Rust and the definition.
+#[tactic(auto, using(crate::proofs::CrossProducts::ab_below, crate::proofs::CrossProducts::cd_below), unfolding(plane::specs::Signs::cross_product_sign))]
 pub(crate) fn cross_product_sign(p1: Point64, p2: Point64, p3: Point64) -> i64
     requires { Turn p1 p2 p3 }
     ensures { result ≡ cross_product_sign p1 p2 p3 }
@@ -49,6 +59,7 @@ pub(crate) fn cross_product_sign(p1: Point64, p2: Point64, p3: Point64) -> i64
 }
 
 // Whether the three points are on one line.
+#[tactic(auto, using(crate::proofs::CrossProducts::ab_is_cd), unfolding(plane::specs::Signs::is_collinear))]
 pub(crate) fn is_collinear(p1: Point64, shared: Point64, p2: Point64) -> bool
     requires { Turn p1 shared p2 }
     ensures { result ≡ is_collinear p1 shared p2 }
@@ -67,6 +78,7 @@ pub(crate) fn cross_product_is_negative(p1: Point64, p2: Point64, p3: Point64) -
 }
 
 // Whether the way from one location to another goes clockwise round the rectangle, whose mid point decides between opposite sides.
+#[tactic(auto, unfolding(plane::specs::Signs::is_clockwise_dir))]
 pub(crate) fn is_clockwise_dir(
     prev: Location,
     curr: Location,
@@ -92,48 +104,8 @@ pub(crate) fn to_float(z: i64) -> f64
     z as f64
 }
 
-// The working of the segment from a to b against the edge from c to d.
-pub(crate) fn measured(a: Point64, b: Point64, c: Point64, d: Point64) -> Working
-    requires { AllLimited a b c d }
-    ensures { result ≡ working_of a b c d }
-{
-    let x = to_float(a.x);
-    let y = to_float(a.y);
-    let dx = to_float(b.x) - x;
-    let dy = to_float(b.y) - y;
-    let cx = to_float(c.x);
-    let cy = to_float(c.y);
-    let dx2 = to_float(d.x) - cx;
-    let dy2 = to_float(d.y) - cy;
-    let det = dy * dx2 - dy2 * dx;
-    let t = ((x - cx) * dy2 - (y - cy) * dx2) / det;
-    Working {
-        x,
-        y,
-        dx,
-        dy,
-        det,
-        t,
-    }
-}
-
-// The crossing, before its fraction is cut to whole numbers.
-pub(crate) fn found(w: Working, a: Point64, b: Point64) -> Crossing
-    ensures { result ≡ crossing_of w a b }
-{
-    if w.det == 0.0 {
-        return Crossing::Nothing;
-    }
-    if w.t <= 0.0 {
-        return Crossing::At(a);
-    }
-    if w.t >= 1.0 {
-        return Crossing::At(b);
-    }
-    Crossing::Along(w.t)
-}
-
 // The point at the fraction t of the segment, cut toward zero.
+#[tactic(auto, unfolding(plane::specs::Segment::point_at))]
 pub(crate) fn point_at(w: Working, t: f64) -> Point64
     ensures { result ≡ point_at w t }
 {
@@ -143,22 +115,65 @@ pub(crate) fn point_at(w: Working, t: f64) -> Point64
 }
 
 // Where the segment and the edge meet: the crossing, its fraction cut to a point.
-pub(crate) fn settled(c: Crossing, w: Working) -> Meeting
+pub(crate) fn settled(c: Option<Crossing>, w: Working) -> Option<Point64>
     ensures { result ≡ settled_of c w }
 {
-    match c {
-        Crossing::Nothing => Meeting::Apart,
-        Crossing::At(p) => Meeting::Met(p),
-        Crossing::Along(t) => Meeting::Met(point_at(w, t)),
-    }
+    c.map(|crossing| match crossing {
+        Crossing::At(p) => p,
+        Crossing::Along(t) => point_at(w, t),
+    })
 }
 
-// Where the segment from a to b and the edge from c to d meet, in binary64.
-pub(crate) fn get_segment_intersect_pt(a: Point64, b: Point64, c: Point64, d: Point64) -> Meeting
-    requires { AllLimited a b c d }
-    ensures is { result ≡ intersection a b c d }
-    ensures near { NearCrossing a b c d result }
-{
-    let w = measured(a, b, c, d);
-    settled(found(w, a, b), w)
+impl Segment {
+    // The working of the segment against an edge.
+    #[tactic(auto, unfolding(plane::specs::Segment::working_of))]
+    fn measured(self, edge: Segment) -> Working
+        ensures { result ≡ working_of self.from self.to edge.from edge.to }
+    {
+        let x = to_float(self.from.x);
+        let y = to_float(self.from.y);
+        let dx = to_float(self.to.x) - x;
+        let dy = to_float(self.to.y) - y;
+        let cx = to_float(edge.from.x);
+        let cy = to_float(edge.from.y);
+        let dx2 = to_float(edge.to.x) - cx;
+        let dy2 = to_float(edge.to.y) - cy;
+        let det = dy * dx2 - dy2 * dx;
+        let t = ((x - cx) * dy2 - (y - cy) * dx2) / det;
+        Working {
+            x,
+            y,
+            dx,
+            dy,
+            det,
+            t,
+        }
+    }
+
+    // The crossing, before its fraction is cut to whole numbers.
+    #[tactic(auto, unfolding(plane::specs::Segment::crossing_of))]
+    fn found(self, w: Working) -> Option<Crossing>
+        ensures { result ≡ crossing_of w self.from self.to }
+    {
+        if w.det == 0.0 {
+            return None;
+        }
+        if w.t <= 0.0 {
+            return Some(Crossing::At(self.from));
+        }
+        if w.t >= 1.0 {
+            return Some(Crossing::At(self.to));
+        }
+        Some(Crossing::Along(w.t))
+    }
+
+    // Where the segment and an edge meet, in binary64.
+    #[tactic(auto, using(theorems::proofs::Crossed::near_crossing), unfolding(plane::specs::Segment::intersection))]
+    pub(crate) fn get_segment_intersect_pt(self, edge: Segment) -> Option<Point64>
+        ensures is { result ≡ intersection self.from self.to edge.from edge.to }
+        ensures near { NearCrossing self.from self.to edge.from edge.to result }
+    {
+        let w = self.measured(edge);
+        settled(self.found(w), w)
+    }
 }

@@ -1,14 +1,17 @@
-// The walk that both clippers share: its state, `add`, the start sides, corners, and `get_next_location`.
+// The walk that both clippers share: its state, `add` and the start sides. Corners are in corners.rt, `get_next_location` in next.rt.
 // Points are only ever put behind the last one, so the store holds those of all results, in order.
-ghost use Rattle.std.specs.Prelude.{◌≡◌, Bool, true, false, ◌/◌, length};
-ghost use Rattle.plane.specs.Points.{points_of};
-ghost use Rattle.reference.specs.Walk.{no_room, add, add_all, push_start_loc};
-ghost use Rattle.rectclip.specs.Walking.{walk_of, Fits, Adds, AddsAll, Stepped};
+ghost use Rattle.std.specs.Prelude.{◌≡◌, ◌<◌, true};
+ghost use Rattle.plane.specs.Limit.{all_in_limit};
+ghost use Rattle.plane.specs.Points.{points_of, pt_at};
+ghost use Rattle.reference.specs.Walk.{add, add_all, push_start_loc};
+ghost use Rattle.rectclip.specs.Bounds.{Reached};
+ghost use Rattle.rectclip.specs.Walking.{Fits, Sheet};
 
 use crate::lists::{RESULT, START_LOC, point_at, put_point, store as store_field};
 use entry::answer::Refusal;
 use plane::location::Location;
 use plane::point::Point64;
+use plane::rect::Rect64;
 
 // How many points, results and start sides the walk has put down.
 #[derive(Clone, Copy)]
@@ -16,13 +19,6 @@ pub(crate) struct WalkState {
     pub points: usize,
     pub starts: usize,
     pub start_locs: usize,
-}
-
-// A step of the walk: how it stands afterwards, or a refusal.
-#[derive(Clone, Copy)]
-pub(crate) enum Step {
-    Walked(WalkState),
-    Refused(Refusal),
 }
 
 impl WalkState {
@@ -38,95 +34,90 @@ impl WalkState {
     }
 }
 
-// `add` where a new result begins.
-fn begin(store: &mut [i64], work: &mut [u32], s: WalkState, pt: Point64) -> Step
-    requires { Adds store.old work.old s pt }
-    ensures { Stepped (add (no_room (length store.old / 2)) (walk_of store.old work.old s) pt true) store.new work.new result }
-{
-    let n = s.points;
-    let starts = s.starts;
-    let start_locs = s.start_locs;
-    if store.len() / 2 <= n {
-        return Step::Refused(Refusal::StoreFull);
-    }
-    put_point(store, n, pt);
-    store_field(work, RESULT, starts, n);
-    Step::Walked(WalkState {
-        points: n + 1,
-        starts: starts + 1,
-        start_locs,
-    })
+// The rectangle and the path, and the lent lists with what the walk has put down in them.
+#[derive(Drop)]
+pub(crate) struct Walker<'a> {
+    pub(crate) rect: Rect64,
+    pub(crate) path: &'a [i64],
+    pub(crate) store: &'a mut [i64],
+    pub(crate) work: &'a mut [u32],
+    pub(crate) state: WalkState,
+    ghost sheet: { Sheet rect path.now },
+    ghost fits: { Fits store.now work.now state },
 }
 
-// `add`: a point equal to the one before is skipped, unless a new result begins.
-pub(crate) fn add(
-    store: &mut [i64],
-    work: &mut [u32],
-    s: WalkState,
-    pt: Point64,
-    start_new: bool,
-) -> Step
-    requires { Adds store.old work.old s pt }
-    ensures { Stepped (add (no_room (length store.old / 2)) (walk_of store.old work.old s) pt start_new) store.new work.new result }
-{
-    let n = s.points;
-    let starts = s.starts;
-    let start_locs = s.start_locs;
-    if start_new {
-        return begin(store, work, s, pt);
-    }
-    if n == 0 {
-        return begin(store, work, s, pt);
-    }
-    let last = point_at(store, n - 1);
-    if last.equals(pt) {
-        return Step::Walked(s);
-    }
-    if store.len() / 2 <= n {
-        return Step::Refused(Refusal::StoreFull);
-    }
-    put_point(store, n, pt);
-    Step::Walked(WalkState {
-        points: n + 1,
-        starts,
-        start_locs,
-    })
-}
+impl<'a> Walker<'a> {
+    ghost use Rattle.rectclip.specs.Steps.{walk, full, Steps};
 
-// Every point of the path is added.
-pub(crate) fn add_all(path: &[i64], store: &mut [i64], work: &mut [u32], s: WalkState) -> Step
-    requires { AddsAll path.now store.old work.old s }
-    ensures { Stepped (add_all (no_room (length store.old / 2)) (walk_of store.old work.old s) (points_of path.now)) store.new work.new result }
-{
-    let n = path.len() / 2;
-    let mut w = s;
-    let mut i = 0;
-    while i < n {
-        let r = add(store, work, w, point_at(path, i), false);
-        let Step::Walked(v) = r else {
-            return r;
-        };
-        w = v;
-        i += 1;
+    // The point at position `i` that the walk has put down.
+    fn point_at(&self, i: usize) -> Point64
+        requires { i < self.now.state.points }
+        ensures { result ≡ pt_at (points_of self.now.store.now) i }
+    {
+        point_at(self.store, i)
     }
-    Step::Walked(w)
-}
 
-// `start_locs.push(loc)`
-pub(crate) fn push_start_loc(store: &[i64], work: &mut [u32], s: WalkState, loc: Location) -> Step
-    requires { Fits store.now work.old s }
-    ensures { Stepped (push_start_loc (no_room (length store.now / 2)) (walk_of store.now work.old s) loc) store.now work.new result }
-{
-    let points = s.points;
-    let starts = s.starts;
-    let n = s.start_locs;
-    if store.len() / 2 <= n {
-        return Step::Refused(Refusal::StoreFull);
+    // `add` where a new result begins.
+    fn begin(&mut self, pt: Point64) -> Result<(), Refusal>
+        requires { Reached pt }
+        ensures { Steps (add (full self.old) (walk self.old) pt true) self.old self.new result }
+    {
+        let n = self.state.points;
+        if self.store.len() / 2 <= n {
+            return Err(Refusal::StoreFull);
+        }
+        put_point(self.store, n, pt);
+        store_field(self.work, RESULT, self.state.starts, n);
+        self.state.points = n + 1;
+        self.state.starts += 1;
+        Ok(())
     }
-    store_field(work, START_LOC, n, loc.number() as usize);
-    Step::Walked(WalkState {
-        points,
-        starts,
-        start_locs: n + 1,
-    })
+
+    // `add`: a point equal to the one before is skipped, unless a new result begins.
+    pub(crate) fn add(&mut self, pt: Point64, start_new: bool) -> Result<(), Refusal>
+        requires { Reached pt }
+        ensures { Steps (add (full self.old) (walk self.old) pt start_new) self.old self.new result }
+    {
+        let n = self.state.points;
+        if start_new {
+            return self.begin(pt);
+        }
+        if n == 0 {
+            return self.begin(pt);
+        }
+        let last = self.point_at(n - 1);
+        if last == pt {
+            return Ok(());
+        }
+        if self.store.len() / 2 <= n {
+            return Err(Refusal::StoreFull);
+        }
+        put_point(self.store, n, pt);
+        self.state.points = n + 1;
+        Ok(())
+    }
+
+    // Every point of the path is added.
+    pub(crate) fn add_all(&mut self, path: &[i64]) -> Result<(), Refusal>
+        requires { all_in_limit path.now ≡ true }
+        ensures { Steps (add_all (full self.old) (walk self.old) (points_of path.now)) self.old self.new result }
+    {
+        for i in 0..path.len() / 2 {
+            self.add(point_at(path, i), false)?;
+        }
+        Ok(())
+    }
+
+    // `start_locs.push(loc)`
+    pub(crate) fn push_start_loc(&mut self, loc: Location) -> Result<(), Refusal>
+        ensures { Steps (push_start_loc (full self.old) (walk self.old) loc) self.old self.new result }
+    {
+        let n = self.state.start_locs;
+        if self.store.len() / 2 <= n {
+            return Err(Refusal::StoreFull);
+        }
+        store_field(self.work, START_LOC, n, u32::from(loc) as usize);
+        self.state.start_locs = n + 1;
+        Ok(())
+    }
 }

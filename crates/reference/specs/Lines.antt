@@ -1,26 +1,25 @@
 -- `RectClipLines64::execute_internal` and `execute` for one open path.
-use Rattle.std.specs.Prelude.{Bool, true, false, not, List, [], ◌∷◌, ℕ, zero, suc, ◌+◌, ◌-◌, length, take, drop, ltb, leb, if◌then◌else◌}
+use Rattle.std.specs.Prelude.{Bool, true, false, not, List, [], ◌∷◌, ℕ, zero, suc, ◌+◌, ◌-◌, length, take, drop, ltb, leb, if◌then◌else◌, Option, None, Some}
 use Rattle.plane.specs.declared.point.Point64.{Point64}
 use Rattle.plane.specs.declared.rect.Rect64.{Rect64}
 use Rattle.plane.specs.declared.location.Location.{Location}
 use Rattle.plane.specs.declared.location.Location.TheVariants.{Inside}
-use Rattle.plane.specs.declared.crossing.Search.{Search}
-use Rattle.plane.specs.declared.crossing.Search.TheVariants.{Missed, Found}
+use Rattle.plane.specs.declared.crossing.SidePoint.{SidePoint}
 use Rattle.plane.specs.Basics.{Try, ok, ◌>>=◌}
 use Rattle.plane.specs.Points.{pt_at}
 use Rattle.plane.specs.Rectangle.{is_empty, intersects, get_bounds_path, get_location}
-use Rattle.plane.specs.Intersection.{get_intersection}
+use Rattle.plane.specs.Intersection.{found_at, get_intersection}
 use Rattle.reference.specs.Walk.{Walk, nothing_yet, add, add_all, Next, get_next_location, second_search}
 use Rattle.plane.specs.Locations.{is_inside}
 use Rattle.reference.specs.Counts.{line_walk_passes}
 
 -- the search for a point off the edges, forwards from the second: its location, if there is one
-unfoldable pub first_off_edge : Rect64 → List Point64 → Search
-first_off_edge rect [] = Missed
+unfoldable pub first_off_edge : Rect64 → List Point64 → Option SidePoint
+first_off_edge rect [] = None
 first_off_edge rect (p ∷ rest) =
     let after = first_off_edge rect rest in
     let s = get_location rect p in
-    if s.off then Found p s.loc else after
+    if s.off then found_at p s.loc else after
 
 module _ (full : ℕ → Bool) (rect : Rect64) where
   -- "passing right through rect": in where the second search finds the segment, out at ip
@@ -44,8 +43,8 @@ module _ (full : ℕ → Bool) (rect : Rect64) (path : List Point64) where
       let prev_pt = pt_at path (nx.i - 1) in
       let crossed : Try Next =
       elim (get_intersection rect pt prev_pt nx.loc) [
-        | Missed ↦ ok (record { walk = nx.walk; loc = nx.loc; i = nx.i + 1 })
-        | Found ip crossing_loc ↦ line_cross full rect nx prev prev_pt pt ip
+        | None ↦ ok (record { walk = nx.walk; loc = nx.loc; i = nx.i + 1 })
+        | Some found ↦ line_cross full rect nx prev prev_pt pt found.point
       ] in
       if leb (length path) nx.i then ok nx else crossed
 
@@ -68,7 +67,7 @@ module _ (full : ℕ → Bool) (rect : Rect64) (path : List Point64) where
       let at_first = get_location rect (pt_at path 0) in
       let on_edges = add_all full nothing_yet path in
       let from_edge : Try Walk =
-      elim (first_off_edge rect (drop 1 path)) [ Missed ↦ on_edges | Found p prev ↦ line_walk_from (if is_inside prev then Inside else at_first.loc) ] in
+      elim (first_off_edge rect (drop 1 path)) [ None ↦ on_edges | Some found ↦ line_walk_from (if is_inside found.side then Inside else at_first.loc) ] in
       if ltb (length path) 2 then ok nothing_yet
       else if at_first.off then line_walk_from at_first.loc
       else from_edge

@@ -1,17 +1,15 @@
 -- The walks of `RectClip64::execute_internal` and `RectClipLines64::execute_internal`, over a rectangle and a path alone.
-use Rattle.std.specs.Prelude.{Bool, false, not, ◌&&◌, ◌||◌, List, [], ◌∷◌, ℕ, zero, suc, ◌+◌, ◌-◌, ◌*◌, length, drop, ltb, leb, if◌then◌else◌}
+use Rattle.std.specs.Prelude.{Bool, false, not, ◌&&◌, ◌||◌, List, [], ◌∷◌, ℕ, zero, suc, ◌+◌, ◌-◌, ◌*◌, length, drop, ltb, leb, if◌then◌else◌, Option, None, Some}
 use Rattle.plane.specs.declared.point.Point64.{Point64}
 use Rattle.plane.specs.declared.rect.Rect64.{Rect64}
 use Rattle.plane.specs.declared.location.Location.{Location}
 use Rattle.plane.specs.declared.location.Location.TheVariants.{Left, Top, Right, Bottom, Inside}
-use Rattle.plane.specs.declared.crossing.Search.{Search}
-use Rattle.plane.specs.declared.crossing.Search.TheVariants.{Missed, Found}
 use Rattle.plane.specs.declared.crossing.SidePoint.{SidePoint}
 use Rattle.plane.specs.Basics.{push, is_nil, lead, Try, refuse, ok, ◌>>=◌}
 use Rattle.plane.specs.Locations.{is_inside, same_location, side, opposite, lower, upper, get_adjacent_location, heading_clockwise, start_locs_are_clockwise}
 use Rattle.plane.specs.Points.{pt_at, same_point}
 use Rattle.plane.specs.Rectangle.{as_path, mid_point, contains_point, get_bounds_path, get_location, corner, beyond, beyond_or_on}
-use Rattle.plane.specs.Intersection.{get_intersection, found_or}
+use Rattle.plane.specs.Intersection.{found_at, get_intersection, found_or}
 use Rattle.plane.specs.Signs.{is_clockwise_dir}
 use Rattle.plane.specs.Polygon.{path1_contains_path2}
 use Rattle.reference.specs.Counts.{corner_steps, walk_passes}
@@ -232,12 +230,12 @@ module _ (full : ℕ → Bool) (rect : Rect64) where
       >>= λ w. ok (record { walk = w; entered = [] })
 
 -- the search of `execute_internal` for a point off the edges, backwards from the last but one: its location, if there is one
-unfoldable pub last_off : Rect64 → List Point64 → ℕ → Search
-last_off rect path zero = Missed
+unfoldable pub last_off : Rect64 → List Point64 → ℕ → Option SidePoint
+last_off rect path zero = None
 last_off rect path (suc i) =
     let before = last_off rect path i in
     let s = get_location rect (pt_at path i) in
-    if s.off then Found (pt_at path i) s.loc else before
+    if s.off then found_at (pt_at path i) s.loc else before
 
 -- the point before point i, round the closed path
 abbrev pub pt_before : List Point64 → ℕ → Point64
@@ -249,7 +247,7 @@ module _ (full : ℕ → Bool) (rect : Rect64) (path : List Point64) where
   pass_from s nx =
       let c : Pass = record { walk = nx.walk; i = nx.i; prev = s.loc; loc = nx.loc; crossing_prev = s.crossing_loc; first_cross = s.first_cross; prev_pt = pt_before path nx.i; pt = pt_at path nx.i } in
       let crossed : Try State =
-      elim (get_intersection rect c.pt c.prev_pt c.loc) [ Missed ↦ remain_outside full rect c | Found ip crossing_loc ↦ cross_boundary full rect c ip crossing_loc ] in
+      elim (get_intersection rect c.pt c.prev_pt c.loc) [ None ↦ remain_outside full rect c | Some found ↦ cross_boundary full rect c found.point found.side ] in
       if leb (length path) nx.i
       then ok (record { walk = nx.walk; i = nx.i; loc = nx.loc; crossing_loc = s.crossing_loc; first_cross = s.first_cross })
       else crossed
@@ -285,7 +283,7 @@ module _ (full : ℕ → Bool) (rect : Rect64) (path : List Point64) where
       let at_last = get_location rect (pt_at path (length path - 1)) in
       let on_edges : Try Walked = add_all full nothing_yet path >>= λ w. ok (record { walk = w; entered = [] }) in
       let from_edge : Try Walked =
-      elim (last_off rect path (length path - 1)) [ Missed ↦ on_edges | Found p prev ↦ walk_from (if is_inside prev then Inside else at_last.loc) ] in
+      elim (last_off rect path (length path - 1)) [ None ↦ on_edges | Some found ↦ walk_from (if is_inside found.side then Inside else at_last.loc) ] in
       if is_nil path then ok (record { walk = nothing_yet; entered = [] })
       else if at_last.off then walk_from at_last.loc
       else from_edge

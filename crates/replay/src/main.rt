@@ -3,61 +3,48 @@
 // counts as the input's end, and a write that fails ends it.
 #![tactic(auto)]
 
-ghost use Rattle.replay.specs.Fits.{Fits};
-
 mod replay;
 
-use program::input::{Cursor, take_line};
+use program::input::Input;
 use replay::Replay;
+use std::io;
 use std::io::{Print, Read};
 
-// All lines. Their numbers count up to one that no run comes to.
+// One more than the largest number of a line, to which no run comes.
+const NUMBERS_END: u64 = 9223372036854775808;
+
+// All lines.
 fn replay_lines<P: Print, R: Read>(
     rt: &P,
     input: &mut R,
     answer: &mut [u8; 12288],
     stored: &mut [u8; 12288],
-) -> Replay
-    ensures { Fits result }
-{
-    let mut buffer = [0u8; 65536];
+) -> io::Result<Replay> {
+    let mut lines = Input::<65536>::new();
     let mut line = [0u8; 12289];
-    let mut cursor = Cursor { at: 0, end: 0 };
     let mut state = Replay::new();
-    let mut number: u64 = 1;
-    while number < 9223372036854775808 {
-        let taken = take_line(input, &mut buffer, cursor, &mut line);
-        if !taken.begun {
-            return state;
+    for number in 1..NUMBERS_END {
+        let Some(taken) = lines.take_line(input, &mut line) else {
+            return Ok(state);
+        };
+        state = state.next(rt, number, &line[..taken.count], answer, stored)?;
+        if !taken.ended {
+            return Ok(state);
         }
-        let k = taken.count;
-        state = state.next(rt, number, &line[..k], answer, stored);
-        if state.stopped | !taken.ended {
-            return state;
-        }
-        cursor = taken.cursor;
-        number += 1;
     }
-    state
+    Ok(state)
 }
 
-// How many drawings there are and how many answers are as stored.
-fn print_counts<P: Print>(rt: &P, drawings: u64, same: u64) {
-    match println!(rt; "{drawings} drawings, {same} as stored") {
-        Ok(()) => {}
-        Err(_) => {}
-    }
+// The drawings of the input, and then how many there are and how many answers are as stored.
+fn replay_all<P: Print, R: Read>(rt: &P, input: &mut R) -> io::Result<()> {
+    let mut answer = [0u8; 12288];
+    let mut stored = [0u8; 12288];
+    let state = replay_lines(rt, input, &mut answer, &mut stored)?;
+    let end = state.settled(rt, &answer, &stored)?;
+    println!(rt; "{} drawings, {} as stored", end.drawings, end.same)
 }
 
 fn main(rt: HostRuntime) {
-    let mut answer = [0u8; 12288];
-    let mut stored = [0u8; 12288];
-    let state = replay_lines(&rt, &mut rt.stdin(), &mut answer, &mut stored);
-    if state.stopped {
-        return;
-    }
-    let end = state.settled(&rt, &answer, &stored);
-    if !end.stopped {
-        print_counts(&rt, end.drawings, end.same);
-    }
+    // A write that fails ends the program, whose status stays 0.
+    let _ = replay_all(&rt, &mut rt.stdin());
 }

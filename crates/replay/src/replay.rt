@@ -1,16 +1,17 @@
 // What the lines of the stored file do, one behind another: a rectangle, a drawing, or a line of a stored answer.
-ghost use Rattle.std.specs.Prelude.{◌≡◌, ◌≤◌, take};
+ghost use Rattle.std.specs.Prelude.{◌≡◌, ◌<◌, ◌≤◌, take};
 ghost use Rattle.text.specs.Same.{same};
-ghost use Rattle.replay.specs.Fits.{Fits, Fronts, Next};
+ghost use Rattle.replay.specs.Fits.{Fronts};
 
 use plane::rect::Rect64;
 use program::answers::answer_line;
+use std::io;
 use std::io::Print;
 use text::comparing::same_bytes;
 use text::reading::{Request, read_line};
 
 // The rectangle; the last drawing's line (0 before the first), how many bytes its answer has and how many were stored for it;
-// drawings and equal answers so far, the last one not counted; whether a write has failed, which ends the program.
+// drawings and equal answers so far, the last one not counted. The answer and what is stored of it lie within their lists.
 #[derive(Clone, Copy)]
 pub(crate) struct Replay {
     pub rect: Rect64,
@@ -19,7 +20,8 @@ pub(crate) struct Replay {
     pub kept: usize,
     pub drawings: u64,
     pub same: u64,
-    pub stopped: bool,
+    ghost answer_fits: { size ≤ 12288 },
+    ghost stored_fits: { kept ≤ 12288 },
 }
 
 // Whether the fronts of two lists are equal.
@@ -48,41 +50,15 @@ fn keep(line: &[u8], stored: &mut [u8; 12288], from: usize) -> usize
     ensures { result ≤ 12288 }
 {
     let mut end = from;
-    let mut i: usize = 1;
-    while i < line.len() {
-        end = put(line[i], stored, end);
-        i += 1;
+    for b in line.iter().skip(1) {
+        end = put(*b, stored, end);
     }
-    put(10, stored, end)
-}
-
-// Answers whether all of it was written.
-fn print_difference<P: Print>(rt: &P, line: u64) -> bool {
-    match println!(rt; "line {line} differs") {
-        Ok(()) => true,
-        Err(_) => false,
-    }
-}
-
-// Prints a drawing whose answer is not the stored one; answers whether a write failed.
-fn print_unless<P: Print>(rt: &P, equal: bool, line: u64) -> bool {
-    if equal {
-        return false;
-    }
-    !print_difference(rt, line)
-}
-
-// Line 1 of the clip program's input, as far as it is one.
-fn read_first(line: &[u8]) -> Request {
-    let mut numbers = [0i64; 1];
-    read_line(true, line, &mut numbers)
+    put(b'\n', stored, end)
 }
 
 impl Replay {
     // No line read: an empty rectangle, and no drawing.
-    pub(crate) fn new() -> Replay
-        ensures { Fits result }
-    {
+    pub(crate) fn new() -> Replay {
         Replay {
             rect: Rect64::new(0, 0, 0, 0),
             line: 0,
@@ -90,7 +66,6 @@ impl Replay {
             kept: 0,
             drawings: 0,
             same: 0,
-            stopped: false,
         }
     }
 
@@ -100,75 +75,46 @@ impl Replay {
         rt: &P,
         answer: &[u8; 12288],
         stored: &[u8; 12288],
-    ) -> Replay
-        requires { Fits self }
-        ensures { Fits result }
-    {
+    ) -> io::Result<Replay> {
         if self.line == 0 {
-            return self;
+            return Ok(self);
         }
         let equal = same_fronts(answer, self.size, stored, self.kept);
-        let stopped = print_unless(rt, equal, self.line);
-        let rect = self.rect;
-        Replay {
-            rect,
+        if !equal {
+            println!(rt; "line {} differs", self.line)?;
+        }
+        Ok(Replay {
+            rect: self.rect,
             line: 0,
             size: 0,
             kept: 0,
             drawings: self.drawings.wrapping_add(1),
-            same: self.same.wrapping_add(equal as u64),
-            stopped,
-        }
-    }
-
-    // A line of the stored answer.
-    fn stored(self, line: &[u8], stored: &mut [u8; 12288]) -> Replay
-        requires { Fits self }
-        ensures { Fits result }
-    {
-        let kept = keep(line, stored, self.kept);
-        let rect = self.rect;
-        Replay {
-            rect,
-            line: self.line,
-            size: self.size,
-            kept,
-            drawings: self.drawings,
-            same: self.same,
-            stopped: self.stopped,
-        }
+            same: self.same.wrapping_add(u64::from(equal)),
+        })
     }
 
     // A rectangle, or a drawing, which is answered.
     fn asked(self, number: u64, line: &[u8], answer: &mut [u8; 12288]) -> Replay
-        requires { Next self number }
-        ensures { Fits result }
+        requires { number < 9223372036854775808 }
     {
-        let drawings = self.drawings;
-        let same = self.same;
-        let stopped = self.stopped;
-        let request = read_first(line);
-        if let Request::Rectangle(rect) = request {
+        if let Some(Request::Rectangle(rect)) = read_line(true, line, &mut [0]) {
             return Replay {
                 rect,
                 line: 0,
                 size: 0,
                 kept: 0,
-                drawings,
-                same,
-                stopped,
+                drawings: self.drawings,
+                same: self.same,
             };
         }
-        let rect = self.rect;
-        let size = answer_line(rect, number as i64, line, answer);
+        let size = answer_line(self.rect, number as i64, line, answer);
         Replay {
-            rect,
+            rect: self.rect,
             line: number,
             size,
             kept: 0,
-            drawings,
-            same,
-            stopped,
+            drawings: self.drawings,
+            same: self.same,
         }
     }
 
@@ -180,19 +126,23 @@ impl Replay {
         line: &[u8],
         answer: &mut [u8; 12288],
         stored: &mut [u8; 12288],
-    ) -> Replay
-        requires { Next self number }
-        ensures { Fits result }
+    ) -> io::Result<Replay>
+        requires { number < 9223372036854775808 }
     {
-        if line.len() == 0 {
-            return self;
+        match line.first() {
+            None | Some(b'#') => Ok(self),
+            Some(b'=') => Ok(Replay {
+                rect: self.rect,
+                line: self.line,
+                size: self.size,
+                kept: keep(line, stored, self.kept),
+                drawings: self.drawings,
+                same: self.same,
+            }),
+            Some(_) => Ok(
+                self.settled(rt, answer, stored)?
+                    .asked(number, line, answer),
+            ),
         }
-        if line[0] == 35 {
-            return self;
-        }
-        if line[0] == 61 {
-            return self.stored(line, stored);
-        }
-        self.settled(rt, answer, stored).asked(number, line, answer)
     }
 }

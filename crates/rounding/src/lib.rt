@@ -8,14 +8,5 @@ ghost use Rattle.std.specs.Float.Ieee.{to_signed};
 pub fn to_whole(s: f64) -> i64
     ensures { result ≡ to_signed 63 s }
 {
-    if s >= -9223372036854775808.0 {
-        if s < 9223372036854775808.0 {
-            return std::num::truncating_f64_to_i64(s);
-        }
-        return 9223372036854775807;
-    }
-    if s < -9223372036854775808.0 {
-        return -9223372036854775808;
-    }
-    0
+    std::num::saturating_f64_to_i64(s)
 }

@@ -1,186 +1,168 @@
--- A field's digits as the loop reads them are the field of the definition: the bytes before the next comma. Assumes nothing.
-use Rattle.std.specs.Prelude.{if◌then◌else◌}
+-- The digits of a number, one more at a time, and a field's sign. Assumes nothing.
+use Rattle.std.specs.Prelude.{Option, Some, None, if◌then◌else◌}
 use mathlib.Core.Path.{◌≡◌, refl, sym, ◌∙◌, ap}
-use mathlib.Core.Bool.{Bool, true, false, ◌&&◌}
+use mathlib.Core.Bool.{Bool, true, false, not, ◌&&◌, ◌||◌}
 use mathlib.Core.List.{List, [], ◌∷◌}
-use Prim.Native.Nat.{ℕ, ◌+◌, ◌-◌, ◌*◌, ◌<◌, ◌≤◌}
+use Prim.Native.Nat.{ℕ, zero, suc, ◌+◌, ◌-◌, ◌*◌, ◌^◌, ◌<◌, ◌≤◌}
 use native.Mathlib.Omega.{arith}
-use lib.ListN.{length, drop}
+use native.Mathlib.Numerals.{add-one}
+use lib.ListN.{length, drop, get_or, drop_of_length-le}
+use lib.Seq.{drop-cons}
 use lib.Dec.{eqb, leb, ltb}
 use lib.IntN.{ℤ, pos, neg_ℤ}
-use borrow.Author.Tests.{leb-true, leb-false, ltb-true, ltb-false, lt-ltb, le-ltb, lt-leb, ne_eqb}
+use borrow.Author.Tests.{lt-leb, leb-true, leb-false, lt-ltb, le-ltb, ltb-false}
+use lib.IntN.{◌+ℤ◌, ◌-ℤ◌}
+use lib.Pointwise.{pointwise}
+use lib.ListN.{take}
+use mir.Syntax.{w64}
+use mir.Val.{SFits}
+use Rattle.std.specs.Prelude.{SomeIff}
+use Rattle.integers.specs.Order.{zint, add_pn, sub_pn, neg_pn}
 use Rattle.plane.specs.Basics.{is_nil}
-use Rattle.text.specs.Decimal.{no_number, number, digits_of, is_digit, all_digits, value_from}
-use Rattle.text.specs.Scanning.{CAP, digit_step, Digit, spell, front, ends_at, entry_of, signed_entry, digits_entry}
-use Rattle.text.specs.declared.number.Entry.TheVariants.{Missing, Whole}
-use Rattle.text.proofs.Spelling.{digit_from}
+use Rattle.text.specs.Decimal.{field, digits_of, is_digit, all_digits, value_from}
+use Rattle.text.specs.Scanning.{digits_value}
 
--- ---- the digits at the front
-abbrev pub lead : List ℕ → List ℕ
-lead [] = []
-lead (b ∷ bs) = if is_digit b then b ∷ lead bs else []
+-- ---- the digits from i on, where those before them stand for v
+pub record DigitsFrom (bs : List ℕ) (v i : ℕ) : Type 0 where
+  pub value : value_from v (drop i bs) ≡ value_from 0 bs
+  pub digits : all_digits (drop i bs) ≡ all_digits bs
+  pub some : is_nil bs ≡ false
+  pub fits : v < 2 ^ 64
 
-abbrev pub steps : ℕ → List ℕ → ℕ
-steps v [] = v
-steps v (b ∷ bs) = steps (digit_step v b) bs
+-- more digits make it no smaller
+value_most : (v : ℕ) (bs : List ℕ) → v ≤ value_from v bs
+value_most v [] = omega arith
+value_most v (b ∷ bs) = omega (arith, value_most (10 * v + (b - 48)) bs)
 
-pub spell_lead : (bs : List ℕ) (v p : ℕ) → spell v p bs ≡ (steps v (lead bs), p + length (lead bs))
-unfolding spell
-spell_lead [] v p = ap (λ (k : ℕ). (v, k)) (omega arith)
-spell_lead (b ∷ bs) v p = go (spell_lead bs (digit_step v b) (p + 1)) (is_digit b)
+some_of : (bs : List ℕ) → (length bs ≡ 0 → ⊥) → is_nil bs ≡ false
+some_of [] h = absurd (h refl)
+some_of (b ∷ bs) h = refl
+
+pub digits_start : (bs : List ℕ) → (length bs ≡ 0 → ⊥) → DigitsFrom bs 0 0
+digits_start bs h = record { value = refl; digits = refl; some = some_of bs h; fits = omega arith }
+
+pub value_nil : (bs : List ℕ) → length bs ≡ 0 → None ≡ digits_value bs
+unfolding digits_value
+value_nil [] h = refl
+value_nil (b ∷ bs) h = absurd (omega arith)
+
+module _ {bs : List ℕ} {v i : ℕ} (s : DigitsFrom bs v i) where
+  -- with a byte that is no digit it is no number
+  pub value_broken : i < length bs → is_digit (get_or bs i 0) ≡ false → None ≡ digits_value bs
+  unfolding digits_value
+  value_broken h e =
+      let d : all_digits bs ≡ false = sym s.digits ∙ ap all_digits (drop-cons bs i 0 h) ∙ rw e refl in
+      rw (s.some, d) refl
+
+  module _ (h : i < length bs) (e : is_digit (get_or bs i 0) ≡ true) where
+    value_again : {w : ℕ} → w ≡ v * 10 + (get_or bs i 0 - 48) → value_from w (drop (i + 1) bs) ≡ value_from 0 bs
+    value_again {w} q =
+        let n : 10 * v + (get_or bs i 0 - 48) ≡ w = omega arith in
+        ap (λ (k : ℕ). value_from w (drop k bs)) (add-one i) ∙ ap (λ (x : ℕ). value_from x (drop (suc i) bs)) (sym n) ∙ sym (ap (value_from v) (drop-cons bs i 0 h)) ∙ s.value
+
+    pub digits_again : {w : ℕ} → w ≡ v * 10 + (get_or bs i 0 - 48) → w < 2 ^ 64 → DigitsFrom bs w (i + 1)
+    digits_again {w} q f =
+        record {
+          value = value_again q;
+          digits = ap (λ (k : ℕ). all_digits (drop k bs)) (add-one i) ∙ sym (ap all_digits (drop-cons bs i 0 h) ∙ rw e refl) ∙ s.digits;
+          some = s.some;
+          fits = f;
+        }
+
+    -- and where it is larger than 64 bits hold, so is all of it
+    pub value_large : 2 ^ 64 ≤ v * 10 + (get_or bs i 0 - 48) → None ≡ digits_value bs
+    unfolding digits_value
+    value_large g =
+        let m : 2 ^ 64 ≤ value_from 0 bs = omega (arith, g, value_most (v * 10 + (get_or bs i 0 - 48)) (drop (i + 1) bs), value_again refl) in
+        go (all_digits bs) m
+      where
+        go : (b : Bool) → 2 ^ 64 ≤ value_from 0 bs → None ≡ (if is_nil bs || not b then None else if ltb (value_from 0 bs) (2 ^ 64) then Some (value_from 0 bs) else None)
+        go true m = rw (s.some, le-ltb _ _ m) refl
+        go false m = rw s.some refl
+
+  pub value_is : length bs ≤ i → Some v ≡ digits_value bs
+  unfolding digits_value
+  value_is h =
+      let n : drop i bs ≡ [] = drop_of_length-le bs {i = i} h in
+      let d : all_digits bs ≡ true = sym s.digits ∙ ap all_digits n in
+      let e : value_from 0 bs ≡ v = sym s.value ∙ ap (value_from v) n in
+      rw (s.some, d, e, lt-ltb v (2 ^ 64) s.fits) refl
+
+-- ---- a field's sign
+abbrev signed : Bool → Option ℕ → Option ℤ
+signed negative None = None
+signed negative (Some n) =
+    if negative then (if leb n (2 ^ 63) then Some (neg_ℤ (pos n)) else None)
+    else (if leb n (2 ^ 63 - 1) then Some (pos n) else None)
+
+digits_signed : (negative : Bool) (bs : List ℕ) → digits_of negative bs ≡ signed negative (digits_value bs)
+unfolding digits_of digits_value
+digits_signed negative bs = go negative (is_nil bs || not (all_digits bs)) (ltb (value_from 0 bs) (2 ^ 64)) refl
   where
-    go : spell (digit_step v b) (p + 1) bs ≡ (steps (digit_step v b) (lead bs), p + 1 + length (lead bs))
-        → (t : Bool) → (if t then spell (digit_step v b) (p + 1) bs else (v, p)) ≡ (steps v (if t then b ∷ lead bs else []), p + length (if t then b ∷ lead bs else []))
-    go ih true = ih ∙ ap (λ (k : ℕ). (steps (digit_step v b) (lead bs), k)) (omega arith)
-    go ih false = ap (λ (k : ℕ). (v, k)) (omega arith)
+    go : (negative t u : Bool) → ltb (value_from 0 bs) (2 ^ 64) ≡ u
+        → (if t then None else if negative then (if leb (value_from 0 bs) (2 ^ 63) then Some (neg_ℤ (pos (value_from 0 bs))) else None) else (if leb (value_from 0 bs) (2 ^ 63 - 1) then Some (pos (value_from 0 bs)) else None))
+        ≡ signed negative (if t then None else if u then Some (value_from 0 bs) else None)
+    go negative true u e = refl
+    go negative false true e = refl
+    go true false false e = let h : 2 ^ 64 ≤ value_from 0 bs = ltb-false _ _ e in rw (lt-leb (value_from 0 bs) (2 ^ 63) (omega arith)) refl
+    go false false false e = let h : 2 ^ 64 ≤ value_from 0 bs = ltb-false _ _ e in rw (lt-leb (value_from 0 bs) (2 ^ 63 - 1) (omega arith)) refl
 
-pub lead_digits : (bs : List ℕ) → all_digits (lead bs) ≡ true
-lead_digits [] = refl
-lead_digits (b ∷ bs) = go (lead_digits bs) (is_digit b) refl
+field_minus : (bs ds : List ℕ) → pointwise eqb (take 1 bs) (45 ∷ []) ≡ true → ds ≡ drop 1 bs → signed true (digits_value ds) ≡ field bs
+unfolding field
+field_minus [] ds e q = absurd (let z : ◌≡◌ {A = ℕ} 0 1 = cc in omega arith)
+field_minus (b ∷ bs) ds e q = go (eqb b 45) e
   where
-    go : all_digits (lead bs) ≡ true → (t : Bool) → is_digit b ≡ t → all_digits (if t then b ∷ lead bs else []) ≡ true
-    go ih true e = rw e ih
-    go ih false e = refl
+    go : (t : Bool) → (t && true) ≡ true → signed true (digits_value ds) ≡ (if t then digits_of true bs else digits_of false (b ∷ bs))
+    go true e = ap (λ (l : List ℕ). signed true (digits_value l)) q ∙ sym (digits_signed true bs)
+    go false e = absurd (let z : ◌≡◌ {A = ℕ} 0 1 = cc in omega arith)
 
--- ---- the cap holds what is too large
-unfoldable pub held : ℕ → ℕ
-held n = if ltb n CAP then n else CAP
-
-held_ge : (n : ℕ) → CAP ≤ n → held n ≡ CAP
-unfolding held
-held_ge n h = rw (le-ltb n CAP h) refl
-
-held_le : (n : ℕ) → n ≤ CAP → held n ≡ n
-unfolding held
-held_le n h = go (ltb n CAP) refl
+field_plain : (bs : List ℕ) → pointwise eqb (take 1 bs) (45 ∷ []) ≡ false → signed false (digits_value bs) ≡ field bs
+unfolding field digits_value
+field_plain [] e = refl
+field_plain (b ∷ bs) e = go (eqb b 45) e
   where
-    go : (t : Bool) → ltb n CAP ≡ t → (if t then n else CAP) ≡ n
-    go true e = refl
-    go false e = let g : CAP ≤ n = ltb-false n CAP e in omega arith
+    go : (t : Bool) → (t && true) ≡ false → signed false (digits_value (b ∷ bs)) ≡ (if t then digits_of true bs else digits_of false (b ∷ bs))
+    go true e = absurd (let z : ◌≡◌ {A = ℕ} 0 1 = cc in omega arith)
+    go false e = sym (digits_signed false (b ∷ bs))
 
-held_step : (n b : ℕ) → Digit b → digit_step (held n) b ≡ held (10 * n + (b - 48))
-unfolding digit_step
-held_step n b d = go (leb n CAP) refl
-  where
-    large : (m : ℕ) → 922337203685477580 < m → (if ltb 922337203685477580 m then CAP else m * 10 + (b - 48)) ≡ CAP
-    large m h = rw (lt-ltb 922337203685477580 m h) refl
+-- by what the magnitude and the sum are
+module _ (bs : List ℕ) where
+  pub minus_none : {ds : List ℕ} → pointwise eqb (take 1 bs) (45 ∷ []) ≡ true → ds ≡ drop 1 bs → None ≡ digits_value ds → None ≡ field bs
+  minus_none {ds} e q d = ap (signed true) d ∙ field_minus bs ds e q
 
-    small : (m : ℕ) → m ≤ 922337203685477580 → (if ltb 922337203685477580 m then CAP else m * 10 + (b - 48)) ≡ m * 10 + (b - 48)
-    small m h = rw (le-ltb 922337203685477580 m h) refl
+  pub plain_none : pointwise eqb (take 1 bs) (45 ∷ []) ≡ false → None ≡ digits_value bs → None ≡ field bs
+  plain_none e d = ap (signed false) d ∙ field_plain bs e
 
-    near : n ≤ CAP → (t : Bool) → ltb 922337203685477580 n ≡ t → (if ltb 922337203685477580 n then CAP else n * 10 + (b - 48)) ≡ held (10 * n + (b - 48))
-    near h true e =
-        let g : 922337203685477580 < n = ltb-true _ _ e in
-        large n g ∙ sym (held_ge (10 * n + (b - 48)) (omega arith))
-    near h false e =
-        let g : n ≤ 922337203685477580 = ltb-false _ _ e in
-        small n g ∙ (omega arith) ∙ sym (held_le (10 * n + (b - 48)) (omega (arith, d.to)))
+  module _ {n : ℕ} (r : Option ℤ) where
+    pub minus_some : {ds : List ℕ} → pointwise eqb (take 1 bs) (45 ∷ []) ≡ true → ds ≡ drop 1 bs → Some n ≡ digits_value ds
+        → SomeIff r (SFits w64 (pos 0 -ℤ pos n)) (pos 0 -ℤ pos n) → r ≡ field bs
+    minus_some {ds} e q d s = go r s (leb n (2 ^ 63)) refl ∙ ap (signed true) d ∙ field_minus bs ds e q
+      where
+        down : pos 0 -ℤ pos n ≡ neg_ℤ (pos n)
+        down = omega (zint, sub_pn (pos 0) (pos n), neg_pn (pos n))
 
-    go : (t : Bool) → leb n CAP ≡ t → (if ltb 922337203685477580 (held n) then CAP else held n * 10 + (b - 48)) ≡ held (10 * n + (b - 48))
-    go true e = let h : n ≤ CAP = leb-true _ _ e in rw (held_le n h) (near h (ltb 922337203685477580 n) refl)
-    go false e =
-        let h : CAP < n = leb-false _ _ e in
-        rw (held_ge n (omega arith)) (sym (held_ge (10 * n + (b - 48)) (omega arith)))
+        fits : (n : ℕ) → n ≤ 2 ^ 63 → SFits w64 (neg_ℤ (pos n))
+        fits zero h = record { sfits = omega arith }
+        fits (suc n) h = record { sfits = omega arith }
 
-pub steps_held : (bs : List ℕ) (n : ℕ) → all_digits bs ≡ true → steps (held n) bs ≡ held (value_from n bs)
-steps_held [] n e = refl
-steps_held (b ∷ bs) n e = go (λ q. steps_held bs (10 * n + (b - 48)) q) (is_digit b) refl e
-  where
-    go : (all_digits bs ≡ true → steps (held (10 * n + (b - 48))) bs ≡ held (value_from (10 * n + (b - 48)) bs))
-        → (t : Bool) → is_digit b ≡ t → (t && all_digits bs) ≡ true → steps (digit_step (held n) b) bs ≡ held (value_from (10 * n + (b - 48)) bs)
-    go ih true p q = rw (held_step n b (digit_from b p)) (ih q)
-    go ih false p q = absurd (let z : ◌≡◌ {A = ℕ} 0 1 = cc in omega arith)
+        most : (n : ℕ) → SFits w64 (neg_ℤ (pos n)) → n ≤ 2 ^ 63
+        most zero f = omega arith
+        most (suc n) f = omega (arith, f.sfits)
 
--- ---- the digits at the front, and the field
-no_comma : (b : ℕ) → is_digit b ≡ true → eqb b 44 ≡ false
-no_comma b e = let d : Digit b = digit_from b e in ne_eqb b 44 (λ q. omega arith)
+        go : (r : Option ℤ) → SomeIff r (SFits w64 (pos 0 -ℤ pos n)) (pos 0 -ℤ pos n) → (t : Bool) → leb n (2 ^ 63) ≡ t → r ≡ (if t then Some (neg_ℤ (pos n)) else None)
+        go None s true p = absurd (s (rw down (fits n (leb-true _ _ p))))
+        go None s false p = refl
+        go (Some x) s true p = ap Some (s.1 ∙ down)
+        go (Some x) s false p = absurd (let f : SFits w64 (neg_ℤ (pos n)) = rw down at s.0 in omega (arith, most n f, leb-false _ _ p))
 
-pub front_lead : (bs : List ℕ) → ends_at (drop (length (lead bs)) bs) ≡ true → front bs ≡ lead bs
-front_lead [] e = refl
-front_lead (b ∷ bs) e = go (front_lead bs) (is_digit b) refl e
-  where
-    go : (ends_at (drop (length (lead bs)) bs) ≡ true → front bs ≡ lead bs)
-        → (t : Bool) → is_digit b ≡ t → ends_at (drop (length (if t then b ∷ lead bs else [])) (b ∷ bs)) ≡ true → front (b ∷ bs) ≡ (if t then b ∷ lead bs else [])
-    go ih true p q = rw (no_comma b p) (ap (λ (k : List ℕ). b ∷ k) (ih q))
-    go ih false p q = rw q refl
+    pub plain_some : pointwise eqb (take 1 bs) (45 ∷ []) ≡ false → Some n ≡ digits_value bs → SomeIff r (SFits w64 (pos 0 +ℤ pos n)) (pos 0 +ℤ pos n) → r ≡ field bs
+    plain_some e d s = go r s (leb n (2 ^ 63 - 1)) refl ∙ ap (signed false) d ∙ field_plain bs e
+      where
+        up : pos 0 +ℤ pos n ≡ pos n
+        up = omega (zint, add_pn (pos 0) (pos n))
 
-pub front_not : (bs : List ℕ) → ends_at (drop (length (lead bs)) bs) ≡ false → all_digits (front bs) ≡ false
-front_not [] e = absurd (let z : ◌≡◌ {A = ℕ} 0 1 = cc in omega arith)
-front_not (b ∷ bs) e = go (front_not bs) (is_digit b) refl e
-  where
-    go : (ends_at (drop (length (lead bs)) bs) ≡ false → all_digits (front bs) ≡ false)
-        → (t : Bool) → is_digit b ≡ t → ends_at (drop (length (if t then b ∷ lead bs else [])) (b ∷ bs)) ≡ false → all_digits (front (b ∷ bs)) ≡ false
-    go ih true p q = rw (no_comma b p, p) (ih q)
-    go ih false p q = rw (q, p) refl
-
-digits_none : (negative : Bool) (f : List ℕ) → all_digits f ≡ false → digits_of negative f ≡ no_number
-unfolding digits_of
-digits_none negative [] e = refl
-digits_none negative (b ∷ f) e = rw e refl
-
--- a test's choice goes through
-choice : (t : Bool) (z : ℤ) (k : ℕ) → entry_of (if t then number z else no_number) k ≡ (if t then Whole z k else Missing)
-choice true z k = refl
-choice false z k = refl
-
-sized : (negative : Bool) (n k : ℕ)
-    → entry_of
-    (if negative then (if leb n 9223372036854775808 then number (neg_ℤ (pos n)) else no_number)
-    else (if leb n 9223372036854775807 then number (pos n) else no_number))
-    k
-    ≡ signed_entry negative (held n) k
-unfolding signed_entry
-sized negative n k = go negative (leb n CAP) refl
-  where
-    go : (negative t : Bool) → leb n CAP ≡ t
-        → entry_of
-        (if negative then (if leb n 9223372036854775808 then number (neg_ℤ (pos n)) else no_number)
-        else (if leb n 9223372036854775807 then number (pos n) else no_number))
-        k
-        ≡ signed_entry negative (held n) k
-    go true true p = rw (held_le _ (leb-true _ _ p)) (choice (leb n 9223372036854775808) _ k)
-    go false true p = rw (held_le _ (leb-true _ _ p)) (choice (leb n 9223372036854775807) _ k)
-    go true false p =
-        let h : CAP < n = leb-false _ _ p in
-        rw (held_ge n (omega arith), lt-leb n 9223372036854775808 (omega arith)) refl
-    go false false p =
-        let h : CAP < n = leb-false _ _ p in
-        rw (held_ge n (omega arith), lt-leb n 9223372036854775807 (omega arith)) refl
-
-digits_some : (negative : Bool) (f : List ℕ) (k : ℕ) → is_nil f ≡ false → all_digits f ≡ true → entry_of (digits_of negative f) k ≡ signed_entry negative (held (value_from 0 f)) k
-unfolding digits_of
-digits_some negative f k e d = rw (e, d) (sized negative (value_from 0 f) k)
-
--- ---- what the digits that were read say of the field: v and p as `spell` gives them
-module _ (negative : Bool) (at : ℕ) (bs : List ℕ) (v p : ℕ) (e : (v, p) ≡ spell 0 at bs) where
-  pub ends_where : p ≡ at + length (lead bs)
-  ends_where = ap (λ (x : ℕ × ℕ). x.1) (e ∙ spell_lead bs 0 at)
-
-  value_is : v ≡ held (value_from 0 (lead bs))
-  unfolding held
-  value_is = ap (λ (x : ℕ × ℕ). x.0) (e ∙ spell_lead bs 0 at) ∙ steps_held (lead bs) 0 (lead_digits bs)
-
-  pub field_ends : (t : Bool) → ends_at (drop (length (lead bs)) bs) ≡ t → p ≡ at → digits_entry negative at bs ≡ Missing
-  unfolding digits_entry digits_of
-  field_ends true q h =
-      let n : lead bs ≡ [] = nil_of (lead bs) (omega (arith, ends_where)) in
-      rw (front_lead bs q ∙ n) refl
-    where
-      nil_of : (l : List ℕ) → length l ≡ 0 → l ≡ []
-      nil_of [] e = refl
-      nil_of (x ∷ l) e = absurd (omega arith)
-  field_ends false q h = rw (digits_none negative (front bs) (front_not bs q)) refl
-
-  pub field_broken : ends_at (drop (length (lead bs)) bs) ≡ false → digits_entry negative at bs ≡ Missing
-  unfolding digits_entry
-  field_broken q = rw (digits_none negative (front bs) (front_not bs q)) refl
-
-  pub field_read : ends_at (drop (length (lead bs)) bs) ≡ true → (p ≡ at → ⊥) → digits_entry negative at bs ≡ signed_entry negative v p
-  unfolding digits_entry
-  field_read q h =
-      rw (front_lead bs q, value_is, ends_where)
-      (digits_some negative (lead bs) (at + length (lead bs)) (some (lead bs) (λ z. h (omega (arith, ends_where)))) (lead_digits bs))
-    where
-      some : (l : List ℕ) → (length l ≡ 0 → ⊥) → is_nil l ≡ false
-      some [] e = absurd (e refl)
-      some (x ∷ l) e = refl
+        go : (r : Option ℤ) → SomeIff r (SFits w64 (pos 0 +ℤ pos n)) (pos 0 +ℤ pos n) → (t : Bool) → leb n (2 ^ 63 - 1) ≡ t → r ≡ (if t then Some (pos n) else None)
+        go None s true p = let h = leb-true n (2 ^ 63 - 1) p in absurd (s (rw up (record { sfits = omega arith })))
+        go None s false p = refl
+        go (Some x) s true p = ap Some (s.1 ∙ up)
+        go (Some x) s false p = absurd (let f : SFits w64 (pos n) = rw up at s.0 in omega (arith, f.sfits, leb-false _ _ p))

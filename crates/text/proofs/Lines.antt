@@ -1,23 +1,22 @@
 -- A line's letter and the numbers behind it are the definition's `request`. Assumes nothing.
-use Rattle.std.specs.Prelude.{if◌then◌else◌}
+use Rattle.std.specs.Prelude.{Option, Some, None, if◌then◌else◌}
+use Rattle.std.specs.List.{onto_first}
 use mathlib.Core.Path.{◌≡◌, refl, sym, ◌∙◌, ap, subst}
 use mathlib.Core.Bool.{Bool, true, false}
 use mathlib.Core.List.{List, [], ◌∷◌}
 use Prim.Native.Nat.{ℕ, ◌+◌, ◌<◌, ◌≤◌}
 use native.Mathlib.Omega.{arith}
-use lib.ListN.{length, drop, get_or}
+use lib.ListN.{length, get_or}
 use lib.Dec.{eqb}
 use lib.IntN.{ℤ, pos}
 use lib.Seq.{sets}
 use borrow.Author.Tests.{eqb-true, eq-eqb, ne_eqb, lt-ltb, le-ltb}
 use Rattle.plane.specs.Basics.{Try, refuse, ok, ◌>>=◌}
 use Rattle.plane.specs.Rectangle.{rect}
-use Rattle.text.specs.declared.fields.Numbers.TheVariants.{Count}
-use Rattle.text.specs.declared.fields.Numbers.TheVariants as counts
 use Rattle.text.specs.declared.reading.Request.{Request as Answer}
-use Rattle.text.specs.declared.reading.Request.TheVariants.{Unreadable, Rectangle, Path}
-use Rattle.text.specs.Decimal.{Field, no_number, number, field}
-use Rattle.text.specs.Reading.{Request, unreadable, rectangle_of, put_first, fields, numbers, asked, asked_by, request}
+use Rattle.text.specs.declared.reading.Request.TheVariants.{Rectangle, Path}
+use Rattle.text.specs.Decimal.{field}
+use Rattle.text.specs.Reading.{Request, unreadable, rectangle_of, fields, numbers, asked, asked_by, request}
 use Rattle.text.specs.Scanning.{counted, leading, behind, leading_behind, path_asked, rectangle_asked}
 use Rattle.text.specs.Asked.{Asks, told_path, told, tells, led_by}
 use Rattle.text.proofs.Stores.{sets_lead}
@@ -30,100 +29,48 @@ kept : (list : List ℤ) → list ≡ led_by [] list
 kept list = sets_lead [] list
 
 -- ---- behind the letter
-pub behind_one : (line : List ℕ) → length line ≡ 1 → behind line ≡ ok []
-unfolding behind
-behind_one [] e = absurd (omega arith)
-behind_one (b ∷ []) e = refl
-behind_one (b ∷ c ∷ bs) e = absurd (omega arith)
-
-pub behind_comma : (line : List ℕ) → 1 < length line → get_or line 1 0 ≡ 44 → behind line ≡ numbers (fields (drop 2 line))
-unfolding behind
-behind_comma [] h e = absurd (omega arith)
-behind_comma (b ∷ []) h e = absurd (omega arith)
-behind_comma (b ∷ c ∷ bs) h e = rw (eq-eqb c 44 e) refl
-
-pub behind_other : (line : List ℕ) → 1 < length line → (get_or line 1 0 ≡ 44 → ⊥) → behind line ≡ refuse 12
-unfolding behind
-behind_other [] h e = absurd (omega arith)
-behind_other (b ∷ []) h e = absurd (omega arith)
-behind_other (b ∷ c ∷ bs) h e = rw (ne_eqb c 44 e) refl
-
-pub leading_some : (line : List ℕ) → 2 ≤ length line → leading_behind line ≡ leading (fields (drop 2 line))
-unfolding leading_behind
-leading_some [] h = absurd (omega arith)
-leading_some (b ∷ []) h = absurd (omega arith)
-leading_some (b ∷ c ∷ bs) h = refl
-
-pub leading_few : (line : List ℕ) → length line < 2 → leading_behind line ≡ []
-unfolding leading_behind
-leading_few [] h = refl
-leading_few (b ∷ []) h = refl
-leading_few (b ∷ c ∷ bs) h = absurd (omega arith)
-
 -- where all fields are numbers, those before the first that is none are all
 numbers_leading : (fs : List (List ℕ)) (zs : List ℤ) → numbers fs ≡ ok zs → leading fs ≡ zs
 numbers_leading [] zs e = cc
 numbers_leading (f ∷ fs) zs e = go (numbers_leading fs) (field f) refl (numbers fs) refl e
   where
     go : ((zs : List ℤ) → numbers fs ≡ ok zs → leading fs ≡ zs)
-        → (x : Field) → field f ≡ x → (t : Try (List ℤ)) → numbers fs ≡ t
-        → (elim x [ no_number ↦ refuse 12 | number z ↦ t >>= λ zs. ok (z ∷ zs) ]) ≡ ok zs
-        → (elim x [ no_number ↦ [] | number z ↦ z ∷ leading fs ]) ≡ zs
-    go ih no_number p t q e = no (cc)
-    go ih (number z) p (refuse k) q e = no (cc)
-    go ih (number z) p (ok ys) q e = let u : leading fs ≡ ys = ih ys q in cc
+        → (x : Option ℤ) → field f ≡ x → (t : Try (List ℤ)) → numbers fs ≡ t
+        → (elim x [ None ↦ refuse 12 | Some z ↦ t >>= λ zs. ok (z ∷ zs) ]) ≡ ok zs
+        → (elim x [ None ↦ [] | Some z ↦ z ∷ leading fs ]) ≡ zs
+    go ih None p t q e = no (cc)
+    go ih (Some z) p (refuse k) q e = no (cc)
+    go ih (Some z) p (ok ys) q e = let u : leading fs ≡ ys = ih ys q in cc
 
-behind_leading : (line : List ℕ) (zs : List ℤ) → behind line ≡ ok zs → leading_behind line ≡ zs
-unfolding behind leading_behind
-behind_leading [] zs e = no (cc)
-behind_leading (b ∷ []) zs e = cc
-behind_leading (b ∷ c ∷ bs) zs e = go (eqb c 44) e
+behind_leading : (bs : List ℕ) (zs : List ℤ) → behind bs ≡ ok zs → leading_behind bs ≡ zs
+behind_leading [] zs e = cc
+behind_leading (c ∷ bs) zs e = go (eqb c 44) e
   where
-    go : (t : Bool) → (if t then numbers (fields bs) else refuse 12) ≡ ok zs → leading (fields bs) ≡ zs
+    go : (t : Bool) → (if t then numbers (fields bs) else refuse 12) ≡ ok zs → (if t then leading (fields bs) else []) ≡ zs
     go true e = numbers_leading (fields bs) zs e
     go false e = no (cc)
 
 -- ---- a path
-pub path_none : (closed : Bool) (t : Try (List ℤ)) (list : List ℤ) → counts.Unreadable ≡ counted 0 t → Asks (path_asked closed t) list Unreadable list
-path_none closed (refuse k) list e = record { is = refl; list_after = kept list }
-path_none closed (ok zs) list e = no (cc)
-
-pub path_read : (closed : Bool) (line : List ℕ) (list after : List ℤ) (k : ℕ) → Count k ≡ counted 0 (behind line) → after ≡ sets list 0 (leading_behind line)
-    → Asks (path_asked closed (behind line)) list (Path closed k) after
+pub path_read : (closed : Bool) (line : List ℕ) (list after : List ℤ) (k : ℕ) → Some k ≡ counted 0 (behind line) → after ≡ sets list 0 (leading_behind line)
+    → Asks (path_asked closed (behind line)) list (Some (Path closed k)) after
 path_read closed line list after k e a = go (behind line) refl e
   where
-    go : (t : Try (List ℤ)) → behind line ≡ t → Count k ≡ counted 0 t → Asks (path_asked closed t) list (Path closed k) after
+    go : (t : Try (List ℤ)) → behind line ≡ t → Some k ≡ counted 0 t → Asks (path_asked closed t) list (Some (Path closed k)) after
     go (refuse n) p q = no (cc)
     go (ok zs) p q =
         let h : k ≡ 0 + length zs = cc in
         record { is = ap (told_path closed) (omega arith); list_after = a ∙ ap (sets list 0) (behind_leading line zs p) ∙ sets_lead zs list }
 
 -- ---- the rectangle
-pub rectangle_none : (t : Try (List ℤ)) → counts.Unreadable ≡ counted 0 t → told Unreadable ≡ tells (rectangle_asked t)
-rectangle_none (refuse k) e = refl
-rectangle_none (ok zs) e = no (cc)
-
-pub rectangle_other : (t : Try (List ℤ)) (k : ℕ) → Count k ≡ counted 0 t → (k ≡ 4 → ⊥) → told Unreadable ≡ tells (rectangle_asked t)
-rectangle_other (refuse n) k e h = refl
-rectangle_other (ok zs) k e h = let g : k ≡ 0 + length zs = cc in go zs (λ q. h (omega arith))
-  where
-    go : (zs : List ℤ) → (length zs ≡ 4 → ⊥) → told Unreadable ≡ tells (rectangle_of zs)
-    go [] h = refl
-    go (l ∷ []) h = refl
-    go (l ∷ t ∷ []) h = refl
-    go (l ∷ t ∷ r ∷ []) h = refl
-    go (l ∷ t ∷ r ∷ b ∷ []) h = absurd (h refl)
-    go (l ∷ t ∷ r ∷ b ∷ x ∷ more) h = refl
-
 abbrev pub zeros : List ℤ
 zeros = pos 0 ∷ pos 0 ∷ pos 0 ∷ pos 0 ∷ []
 
-pub rectangle_read : (line : List ℕ) (k : ℕ) (four : List ℤ) → Count k ≡ counted 0 (behind line) → k ≡ 4 → four ≡ sets zeros 0 (leading_behind line)
-    → told (Rectangle (rect (get_or four 0 (pos 0)) (get_or four 1 (pos 0)) (get_or four 2 (pos 0)) (get_or four 3 (pos 0)))) ≡ tells (rectangle_asked (behind line))
+pub rectangle_read : (line : List ℕ) (k : ℕ) (four : List ℤ) → Some k ≡ counted 0 (behind line) → k ≡ 4 → four ≡ sets zeros 0 (leading_behind line)
+    → told (Some (Rectangle (rect (get_or four 0 (pos 0)) (get_or four 1 (pos 0)) (get_or four 2 (pos 0)) (get_or four 3 (pos 0))))) ≡ tells (rectangle_asked (behind line))
 rectangle_read line k four e h a = go (behind line) refl e
   where
     all : (zs : List ℤ) → length zs ≡ 4 → four ≡ sets zeros 0 zs
-        → told (Rectangle (rect (get_or four 0 (pos 0)) (get_or four 1 (pos 0)) (get_or four 2 (pos 0)) (get_or four 3 (pos 0)))) ≡ tells (rectangle_of zs)
+        → told (Some (Rectangle (rect (get_or four 0 (pos 0)) (get_or four 1 (pos 0)) (get_or four 2 (pos 0)) (get_or four 3 (pos 0))))) ≡ tells (rectangle_of zs)
     all [] h a = absurd (omega arith)
     all (l ∷ []) h a = absurd (omega arith)
     all (l ∷ t ∷ []) h a = absurd (omega arith)
@@ -131,8 +78,8 @@ rectangle_read line k four e h a = go (behind line) refl e
     all (l ∷ t ∷ r ∷ b ∷ []) h a = rw a refl
     all (l ∷ t ∷ r ∷ b ∷ x ∷ more) h a = absurd (omega arith)
 
-    go : (t : Try (List ℤ)) → behind line ≡ t → Count k ≡ counted 0 t
-        → told (Rectangle (rect (get_or four 0 (pos 0)) (get_or four 1 (pos 0)) (get_or four 2 (pos 0)) (get_or four 3 (pos 0)))) ≡ tells (rectangle_asked t)
+    go : (t : Try (List ℤ)) → behind line ≡ t → Some k ≡ counted 0 t
+        → told (Some (Rectangle (rect (get_or four 0 (pos 0)) (get_or four 1 (pos 0)) (get_or four 2 (pos 0)) (get_or four 3 (pos 0))))) ≡ tells (rectangle_asked t)
     go (refuse n) p q = no (cc)
     go (ok zs) p q = let g : k ≡ 0 + length zs = cc in all zs (omega arith) (a ∙ ap (sets zeros 0) (behind_leading line zs p))
 
@@ -146,20 +93,20 @@ asked_comma first b t e = rw (eqb-true b 44 e) (go first t)
     go true (ok zs) = refl
     go false (ok zs) = refl
 
-asked_two : (first : Bool) (b c : ℕ) (fs : List (List ℕ)) → asked_by first (put_first b (put_first c fs)) ≡ unreadable
+asked_two : (first : Bool) (b c : ℕ) (fs : List (List ℕ)) → asked_by first (onto_first b (onto_first c fs)) ≡ unreadable
 asked_two first b c [] = refl
 asked_two first b c (f ∷ fs) = refl
 
-asked_line : (first : Bool) (b : ℕ) (bs : List ℕ) → asked_by first (fields (b ∷ bs)) ≡ asked first b (behind (b ∷ bs))
-unfolding behind asked
+asked_line : (first : Bool) (b : ℕ) (bs : List ℕ) → asked_by first (fields (b ∷ bs)) ≡ asked first b (behind bs)
+unfolding asked
 asked_line first b bs = go (eqb b 44) refl bs
   where
-    second : (c : ℕ) (cs : List ℕ) (t : Bool) → asked_by first (put_first b (if t then [] ∷ fields cs else put_first c (fields cs))) ≡ asked first b (if t then numbers (fields cs) else refuse 12)
+    second : (c : ℕ) (cs : List ℕ) (t : Bool) → asked_by first (onto_first b (if t then [] ∷ fields cs else onto_first c (fields cs))) ≡ asked first b (if t then numbers (fields cs) else refuse 12)
     second c cs true = refl
     second c cs false = asked_two first b c (fields cs)
 
-    go : (t : Bool) → eqb b 44 ≡ t → (bs : List ℕ) → asked_by first (if t then [] ∷ fields bs else put_first b (fields bs)) ≡ asked first b (behind (b ∷ bs))
-    go true e bs = sym (asked_comma first b (behind (b ∷ bs)) e)
+    go : (t : Bool) → eqb b 44 ≡ t → (bs : List ℕ) → asked_by first (if t then [] ∷ fields bs else onto_first b (fields bs)) ≡ asked first b (behind bs)
+    go true e bs = sym (asked_comma first b (behind bs) e)
     go false e [] = refl
     go false e (c ∷ cs) = second c cs (eqb c 44)
 
@@ -176,13 +123,9 @@ module _ (first : Bool) (line : List ℕ) where
   unfolding request
   request_long h = rw (lt-ltb 4096 (length line) h) refl
 
-  pub request_is : 0 < length line → length line ≤ 4096 → request first line ≡ asked first (get_or line 0 0) (behind line)
+  pub request_is : {b : ℕ} {bs : List ℕ} → line ≡ b ∷ bs → length line ≤ 4096 → request first line ≡ asked first b (behind bs)
   unfolding request
-  request_is h g = rw (le-ltb 4096 (length line) g) (go line h)
-    where
-      go : (line : List ℕ) → 0 < length line → asked_by first (fields line) ≡ asked first (get_or line 0 0) (behind line)
-      go [] h = absurd (omega arith)
-      go (b ∷ bs) h = asked_line first b bs
+  request_is {b} {bs} e g = rw (le-ltb 4096 (length line) g) (ap (λ (l : List ℕ). asked_by first (fields l)) e ∙ asked_line first b bs)
 
 -- what the letter makes of the numbers
 module _ (letter : ℕ) (t : Try (List ℤ)) where
@@ -226,10 +169,13 @@ module _ (letter : ℕ) (t : Try (List ℤ)) where
       go (refuse n) = refl
       go (ok zs) = rw (ne_eqb letter 67 e, ne_eqb letter 76 g) refl
 
-pub nothing_asked : {q : Request} (list : List ℤ) → q ≡ unreadable → Asks q list Unreadable list
-nothing_asked list e = subst (λ (q : Request). Asks q list Unreadable list) (sym e) (record { is = refl; list_after = kept list })
+pub nothing_asked : {q : Request} (list : List ℤ) → q ≡ unreadable → Asks q list None list
+nothing_asked list e = subst (λ (q : Request). Asks q list None list) (sym e) (record { is = refl; list_after = kept list })
 
-pub rectangle_asks : (t : Try (List ℤ)) (list : List ℤ) {r : Answer} → told r ≡ tells (rectangle_asked t) → Asks (rectangle_asked t) list r list
+pub empty_asked : (first : Bool) (line : List ℕ) (list : List ℤ) → length line ≡ 0 → Asks (request first line) list None list
+empty_asked first line list e = nothing_asked list (request_empty first line e)
+
+pub rectangle_asks : (t : Try (List ℤ)) (list : List ℤ) {r : Option Answer} → told r ≡ tells (rectangle_asked t) → Asks (rectangle_asked t) list r list
 rectangle_asks (refuse n) list e = record { is = e; list_after = kept list }
 rectangle_asks (ok zs) list {r} e = go zs e
   where
@@ -242,24 +188,24 @@ rectangle_asks (ok zs) list {r} e = go zs e
     go (l ∷ t ∷ r ∷ b ∷ x ∷ more) e = record { is = e; list_after = kept list }
 
 -- ---- the line's ways
-asks_by : {q p : Request} {list after : List ℤ} {r : Answer} → q ≡ p → Asks p list r after → Asks q list r after
+asks_by : {q p : Request} {list after : List ℤ} {r : Option Answer} → q ≡ p → Asks p list r after → Asks q list r after
 asks_by {q} {p} {list} {after} {r} e a = subst (λ (q : Request). Asks q list r after) (sym e) a
 
-module _ {first : Bool} (line : List ℕ) (list : List ℤ) (h : 0 < length line) (g : length line ≤ 4096) where
-  request_as : (t : Bool) → first ≡ t → request first line ≡ asked t (get_or line 0 0) (behind line)
-  request_as t e = request_is first line h g ∙ ap (λ (t : Bool). asked t (get_or line 0 0) (behind line)) e
+module _ {first : Bool} {line : List ℕ} {letter : ℕ} {bs : List ℕ} (list : List ℤ) (e : line ≡ letter ∷ bs) (g : length line ≤ 4096) where
+  request_as : (t : Bool) → first ≡ t → request first line ≡ asked t letter (behind bs)
+  request_as t f = request_is first line e g ∙ ap (λ (t : Bool). asked t letter (behind bs)) f
 
-  pub line_rectangle : {r : Answer} → first ≡ true → get_or line 0 0 ≡ 82 → told r ≡ tells (rectangle_asked (behind line)) → Asks (request first line) list r list
-  line_rectangle e l q = asks_by (request_as true e ∙ asked_rectangle _ (behind line) l) (rectangle_asks (behind line) list q)
+  pub line_rectangle : {r : Option Answer} → first ≡ true → letter ≡ 82 → told r ≡ tells (rectangle_asked (behind bs)) → Asks (request first line) list r list
+  line_rectangle f l q = asks_by (request_as true f ∙ asked_rectangle _ (behind bs) l) (rectangle_asks (behind bs) list q)
 
-  pub line_no_rectangle : first ≡ true → (get_or line 0 0 ≡ 82 → ⊥) → Asks (request first line) list Unreadable list
-  line_no_rectangle e l = nothing_asked list (request_as true e ∙ asked_no_rectangle _ (behind line) l)
+  pub line_no_rectangle : first ≡ true → (letter ≡ 82 → ⊥) → Asks (request first line) list None list
+  line_no_rectangle f l = nothing_asked list (request_as true f ∙ asked_no_rectangle _ (behind bs) l)
 
-  pub line_closed : {r : Answer} {after : List ℤ} → first ≡ false → get_or line 0 0 ≡ 67 → Asks (path_asked true (behind line)) list r after → Asks (request first line) list r after
-  line_closed e l a = asks_by (request_as false e ∙ asked_closed _ (behind line) l) a
+  pub line_closed : {r : Option Answer} {after : List ℤ} → first ≡ false → letter ≡ 67 → Asks (path_asked true (behind bs)) list r after → Asks (request first line) list r after
+  line_closed f l a = asks_by (request_as false f ∙ asked_closed _ (behind bs) l) a
 
-  pub line_open : {r : Answer} {after : List ℤ} → first ≡ false → get_or line 0 0 ≡ 76 → Asks (path_asked false (behind line)) list r after → Asks (request first line) list r after
-  line_open e l a = asks_by (request_as false e ∙ asked_open _ (behind line) l) a
+  pub line_open : {r : Option Answer} {after : List ℤ} → first ≡ false → letter ≡ 76 → Asks (path_asked false (behind bs)) list r after → Asks (request first line) list r after
+  line_open f l a = asks_by (request_as false f ∙ asked_open _ (behind bs) l) a
 
-  pub line_other : first ≡ false → (get_or line 0 0 ≡ 67 → ⊥) → (get_or line 0 0 ≡ 76 → ⊥) → Asks (request first line) list Unreadable list
-  line_other e l m = nothing_asked list (request_as false e ∙ asked_other _ (behind line) l m)
+  pub line_other : first ≡ false → (letter ≡ 67 → ⊥) → (letter ≡ 76 → ⊥) → Asks (request first line) list None list
+  line_other f l m = nothing_asked list (request_as false f ∙ asked_other _ (behind bs) l m)

@@ -1,24 +1,21 @@
 -- Bytes put one after another: numbers, each with a comma before it, and whole lines. Assumes nothing.
-use Rattle.std.specs.Prelude.{if◌then◌else◌}
+use Rattle.std.specs.Prelude.{Option, Some, None, if◌then◌else◌}
 use mathlib.Core.Path.{◌≡◌, refl, sym, ◌∙◌, ap, subst}
 use mathlib.Core.Bool.{Bool, true, false}
 use mathlib.Core.List.{List, [], ◌∷◌, ◌++◌, append_assoc}
 use Prim.Native.Nat.{ℕ, suc, ◌+◌, ◌-◌, ◌<◌, ◌≤◌}
 use native.Mathlib.Omega.{arith}
 use native.Mathlib.Numerals.{add-one}
-use lib.ListN.{length, drop, get_or, set, length-set, length-append, drop_of_length-le}
+use lib.ListN.{length, take, drop, get_or, set, length-set, length-append, drop_of_length-le}
 use lib.Dec.{leb}
-use lib.IntN.{ℤ, pos, negsuc, nat_abs}
-use lib.Signed.{lt_z}
-use lib.Seq.{sets, length-sets, drop-cons}
-use borrow.Author.Tests.{ltb-true, le-leb, lt-leb, leb-true, leb-false}
-use Rattle.text.specs.declared.numbers.Room.TheVariants.{Full, Left}
-use Rattle.text.specs.Decimal.{decimal, signed_decimal, last_digits}
+use lib.IntN.{ℤ, pos}
+use lib.Seq.{sets, sets-eq, length-sets, drop-cons, drop-drop}
+use borrow.Author.Tests.{le-leb, lt-leb, leb-true, leb-false}
+use Rattle.text.specs.Decimal.{signed_decimal}
 use Rattle.text.specs.Printing.{comma_numbers, line_of}
-use Rattle.text.specs.Putting.{Places, Put, room_after}
+use Rattle.text.specs.Putting.{Put, room_after}
 use Rattle.text.specs.Written.{Written}
 use Rattle.text.proofs.Stores.{sets_append, sets_front}
-use Rattle.text.proofs.DigitLoops.{length_last}
 
 -- ---- one put behind another
 pub put_then : {xs ys : List ℕ} {at : ℕ} {l : List ℕ} {n : ℕ} {m : List ℕ} {r : ℕ} {k : List ℕ} → Put xs at l n m → Put ys n m r k → Put (xs ++ ys) at l r k
@@ -36,48 +33,21 @@ put_kept {xs} {at} {l} p = ap length p.list_after ∙ length-sets l at xs
 
 -- a byte, and the others behind it
 module _ {xs ys : List ℕ} {b : ℕ} (e : xs ≡ b ∷ ys) (at : ℕ) (l : List ℕ) where
-  pub first_room : at + length xs ≤ length l → (at + 1) + length ys ≤ length (set l at b)
-  first_room h = omega (arith, ap length e, length-set l at b)
-
-  pub first_here : at + length xs ≤ length l → at < length l
-  first_here h = omega (arith, ap length e)
-
   pub put_first : {r : ℕ} {k : List ℕ} → Put ys (at + 1) (set l at b) r k → Put xs at l r k
   put_first {r} {k} p = subst (λ (w : List ℕ). Put w at l r k) (sym e) (put_then (put_byte b at l) p)
 
 pub put_as : {xs ys : List ℕ} {at : ℕ} {l : List ℕ} {r : ℕ} {k : List ℕ} → xs ≡ ys → Put ys at l r k → Put xs at l r k
 put_as {at = at} {l = l} {r = r} {k = k} e p = subst (λ (w : List ℕ). Put w at l r k) (sym e) p
 
--- ---- a number
-decimal_length : (n : ℕ) {count : ℕ} → Places n count → length (decimal n) ≡ count
-unfolding decimal
-decimal_length n p = length_last _ n ∙ sym p.is
-
-pub put_digits : (n : ℕ) {count at : ℕ} {l m : List ℕ} → Places n count → m ≡ sets l at (last_digits count n) → Put (decimal n) at l (at + count) m
-unfolding decimal
-put_digits n {count} {at} {l} p e =
-    record { list_after = e ∙ ap (λ (k : ℕ). sets l at (last_digits k n)) p.is; ends = ap (λ (k : ℕ). at + k) (sym (decimal_length n p)) }
-
-pub digits_room : (n : ℕ) {count : ℕ} → Places n count → count ≡ length (decimal n)
-digits_room n p = sym (decimal_length n p)
-
-pub signed_minus : (z : ℤ) → lt_z z (pos 0) ≡ true → signed_decimal z ≡ 45 ∷ decimal (nat_abs z)
-unfolding signed_decimal
-signed_minus (pos n) h = absurd (omega (arith, ltb-true n 0 h))
-signed_minus (negsuc n) h = refl
-
-pub signed_plus : (z : ℤ) → lt_z z (pos 0) ≡ false → signed_decimal z ≡ decimal (nat_abs z)
-unfolding signed_decimal
-signed_plus (pos n) h = refl
-signed_plus (negsuc n) h = absurd (let y : ◌≡◌ {A = ℕ} 0 1 = cc in omega arith)
-
--- the same for a number x that came as z, with its magnitude n
-module _ (z : ℤ) {x : ℤ} {n : ℕ} (same : x ≡ z) (m : n ≡ nat_abs x) where
-  pub spelled_minus : lt_z x (pos 0) ≡ true → signed_decimal z ≡ 45 ∷ decimal n
-  spelled_minus h = sym (ap signed_decimal same) ∙ signed_minus x h ∙ ap (λ (k : ℕ). 45 ∷ decimal k) (sym m)
-
-  pub spelled_plus : lt_z x (pos 0) ≡ false → signed_decimal z ≡ decimal n
-  spelled_plus h = sym (ap signed_decimal same) ∙ signed_plus x h ∙ ap decimal (sym m)
+-- ---- bytes in place of as many others
+pub put_part : {xs ys l : List ℕ} {at : ℕ} {k : List ℕ} → xs ≡ ys → k ≡ xs → at + length ys ≤ length l
+    → Put ys at l (at + length xs) (take at l ++ (k ++ drop (at + length xs - at) (drop at l)))
+put_part {xs} {ys} {l} {at} {k} e q h =
+    let m : at + length xs - at ≡ length ys = omega (arith, ap length e) in
+    record {
+      list_after = (λ i. take at l ++ ((q ∙ e) i ++ drop (m i) (drop at l))) ∙ ap (λ (r : List ℕ). take at l ++ (ys ++ r)) (drop-drop (length ys) at l) ∙ sym (append_assoc (take at l) ys (drop (at + length ys) l)) ∙ sym (sets-eq ys l at h);
+      ends = ap (λ (r : List ℕ). at + length r) e;
+    }
 
 -- ---- whether numbers fit
 comma_drop : (list : List ℤ) (i : ℕ) → i < length list → comma_numbers (drop i list) ≡ 44 ∷ signed_decimal (get_or list i (pos 0)) ++ comma_numbers (drop (i + 1) list)
@@ -86,7 +56,7 @@ comma_drop list i h = ap comma_numbers (drop-cons list i (pos 0) h ∙ ap (λ (k
 comma_length : (list : List ℤ) (i : ℕ) → i < length list → length (comma_numbers (drop i list)) ≡ suc (length (signed_decimal (get_or list i (pos 0))) + length (comma_numbers (drop (i + 1) list)))
 comma_length list i h = ap length (comma_drop list i h) ∙ ap suc (length-append (signed_decimal (get_or list i (pos 0))) (comma_numbers (drop (i + 1) list)))
 
-room_full : {room need : ℕ} → room < need → Full ≡ room_after room need
+room_full : {room need : ℕ} → room < need → None ≡ room_after room need
 unfolding room_after
 room_full h = rw (lt-leb _ _ h) refl
 
@@ -94,24 +64,23 @@ room_less : (room a b : ℕ) → a ≤ room → room_after room (a + b) ≡ room
 unfolding room_after
 room_less room a b h = go (leb b (room - a)) refl
   where
-    go : (t : Bool) → leb b (room - a) ≡ t → (if leb (a + b) room then Left (room - (a + b)) else Full) ≡ (if leb b (room - a) then Left (room - a - b) else Full)
+    go : (t : Bool) → leb b (room - a) ≡ t → (if leb (a + b) room then Some (room - (a + b)) else None) ≡ (if leb b (room - a) then Some (room - a - b) else None)
     go true e =
         let g : b ≤ room - a = leb-true _ _ e in
         let q : room - (a + b) ≡ room - a - b = omega arith in
-        rw (e, le-leb (a + b) room (omega arith)) (ap Left q)
+        rw (e, le-leb (a + b) room (omega arith)) (ap Some q)
     go false e = let g : room - a < b = leb-false _ _ e in rw (e, lt-leb (a + b) room (omega arith)) refl
 
 pub record RoomTo (list : List ℤ) (room left i : ℕ) : Type 0 where
   pub goal : room_after left (length (comma_numbers (drop i list))) ≡ room_after room (length (comma_numbers list))
   pub within : i ≤ length list
-  pub most : left ≤ room
 
 pub room_start : (list : List ℤ) (room : ℕ) → RoomTo list room room 0
-room_start list room = record { goal = refl; within = omega arith; most = omega arith }
+room_start list room = record { goal = refl; within = omega arith }
 
 module _ {list : List ℤ} {room left i : ℕ} (s : RoomTo list room left i) where
   module _ {need : ℕ} (h : i < length list) (e : need ≡ length (signed_decimal (get_or list i (pos 0)))) where
-    pub room_out : left ≤ need → Full ≡ room_after room (length (comma_numbers list))
+    pub room_out : left ≤ need → None ≡ room_after room (length (comma_numbers list))
     room_out g =
         let q : left < length (comma_numbers (drop i list)) = omega (arith, comma_length list i h) in
         room_full q ∙ s.goal
@@ -122,21 +91,20 @@ module _ {list : List ℤ} {room left i : ℕ} (s : RoomTo list room left i) whe
         record {
           goal = sym (room_less left (need + 1) (length (comma_numbers (drop (i + 1) list))) (omega arith)) ∙ sym (ap (room_after left) q) ∙ s.goal;
           within = omega arith;
-          most = omega (arith, s.most);
         }
 
-  pub room_end : length list ≤ i → Left left ≡ room_after room (length (comma_numbers list))
+  pub room_end : length list ≤ i → Some left ≡ room_after room (length (comma_numbers list))
   unfolding room_after
   room_end h =
       let e : left - 0 ≡ left = omega arith in
-      sym (ap (λ (k : List ℤ). room_after left (length (comma_numbers k))) (drop_of_length-le list h) ∙ rw (le-leb 0 left (omega arith)) (ap Left e)) ∙ s.goal
+      sym (ap (λ (k : List ℤ). room_after left (length (comma_numbers k))) (drop_of_length-le list h) ∙ rw (le-leb 0 left (omega arith)) (ap Some e)) ∙ s.goal
 
 -- what the answers say
-pub room_full_is : (room need : ℕ) → Full ≡ room_after room need → room < need
+pub room_full_is : (room need : ℕ) → None ≡ room_after room need → room < need
 unfolding room_after
 room_full_is room need e = go (leb need room) refl e
   where
-    go : (t : Bool) → leb need room ≡ t → Full ≡ (if t then Left (room - need) else Full) → room < need
+    go : (t : Bool) → leb need room ≡ t → None ≡ (if t then Some (room - need) else None) → room < need
     go true p q = absurd (let y : ◌≡◌ {A = ℕ} 0 1 = cc in omega arith)
     go false p q = leb-false _ _ p
 
@@ -144,11 +112,11 @@ pub record Fitted (room need more : ℕ) : Type 0 where
   pub fits : need ≤ room
   pub left : more ≡ room - need
 
-pub room_left_is : (room need : ℕ) {more : ℕ} → Left more ≡ room_after room need → Fitted room need more
+pub room_left_is : (room need : ℕ) {more : ℕ} → Some more ≡ room_after room need → Fitted room need more
 unfolding room_after
 room_left_is room need {more} e = go (leb need room) refl e
   where
-    go : (t : Bool) → leb need room ≡ t → Left more ≡ (if t then Left (room - need) else Full) → Fitted room need more
+    go : (t : Bool) → leb need room ≡ t → Some more ≡ (if t then Some (room - need) else None) → Fitted room need more
     go true p q = record { fits = leb-true _ _ p; left = cc }
     go false p q = absurd (let y : ◌≡◌ {A = ℕ} 0 1 = cc in omega arith)
 
@@ -197,20 +165,20 @@ pub line_length : (letter : ℕ) (xs ys : List ℤ) → length (line_of letter (
 line_length letter xs ys =
     omega (arith, length-append (comma_numbers (xs ++ ys)) (10 ∷ []), ap length (comma_append xs ys), length-append (comma_numbers xs) (comma_numbers ys))
 
-pub written_none : (line out : List ℕ) → length out < length line → Written line out 0 out
-written_none line out h = record { count = rw (lt-leb _ _ h) refl; list_after = rw (lt-leb _ _ h) refl; within = omega arith }
+pub written_none : (line out : List ℕ) → length out < length line → Written line out None out
+written_none line out h = record { count = rw (lt-leb _ _ h) refl; list_after = rw (lt-leb _ _ h) refl; within = tt }
 
-pub written_all : {line out : List ℕ} {r : ℕ} {after : List ℕ} → length line ≤ length out → Put line 0 out r after → Written line out r after
+pub written_all : {line out : List ℕ} {r : ℕ} {after : List ℕ} → length line ≤ length out → Put line 0 out r after → Written line out (Some r) after
 written_all {line} {out} h p =
     let n : 0 + length line ≡ length line = omega arith in
     record {
-      count = p.ends ∙ n ∙ rw (le-leb (length line) (length out) h) refl;
+      count = ap Some (p.ends ∙ n) ∙ rw (le-leb (length line) (length out) h) refl;
       list_after = p.list_after ∙ sets_front line out h ∙ rw (le-leb (length line) (length out) h) refl;
       within = omega (arith, p.ends, put_kept p);
     }
 
 -- a path's line, by its number and its count as they came
-pub written_head : (letter : ℕ) {x y a b : ℤ} (zs : List ℤ) {out : List ℕ} {r : ℕ} {after : List ℕ} → x ≡ a → y ≡ b
+pub written_head : (letter : ℕ) {x y a b : ℤ} (zs : List ℤ) {out : List ℕ} {r : Option ℕ} {after : List ℕ} → x ≡ a → y ≡ b
     → Written (line_of letter (x ∷ y ∷ zs)) out r after → Written (line_of letter (a ∷ b ∷ zs)) out r after
 written_head letter {x} {y} {a} {b} zs {out} {r} {after} p q w =
     subst (λ (b : ℤ). Written (line_of letter (a ∷ b ∷ zs)) out r after) q (subst (λ (a : ℤ). Written (line_of letter (a ∷ y ∷ zs)) out r after) p w)

@@ -15,7 +15,7 @@ use Rattle.plane.specs.declared.point.Point64.{Point64}
 use Rattle.text.specs.Decimal.{places, decimal, signed_decimal}
 use Rattle.text.specs.Printing.{comma_numbers, line_of, path_line}
 use Rattle.text.proofs.Puts.{line_length}
-use Rattle.text.proofs.DigitLoops.{places_more, places_stop, length_last}
+use Rattle.text.proofs.DecimalText.{places_more, places_stop, length_last}
 
 -- ---- the digits of a number
 -- one digit, or one more than a tenth of the number takes
@@ -49,7 +49,7 @@ any : (n : ℕ) → length (decimal n) ≤ 20
 unfolding decimal
 any n = omega (arith, length_last (places 19 n) n, places_counted 19 n)
 
-number_width : (z : ℤ) → length (signed_decimal z) ≤ 21
+pub number_width : (z : ℤ) → length (signed_decimal z) ≤ 21
 unfolding signed_decimal
 number_width (pos n) = omega (arith, any n)
 number_width (negsuc n) = omega (arith, any (suc n))

@@ -1,6 +1,6 @@
 -- Decimal numbers as bytes, as document 01's clip program reads and prints them: 'an optional minus and digits', fitting 64 signed bits;
 -- 'printed without leading zeros, and zero without a minus'.
-use Rattle.std.specs.Prelude.{Bool, true, false, not, ◌&&◌, ◌||◌, List, [], ◌∷◌, ◌++◌, ℕ, zero, suc, ◌+◌, ◌-◌, ◌*◌, ◌/◌, ◌%◌, ◌^◌, eqb, leb, ℤ, pos, negsuc, neg_ℤ, if◌then◌else◌}
+use Rattle.std.specs.Prelude.{Bool, true, false, not, ◌&&◌, ◌||◌, List, [], ◌∷◌, ◌++◌, ℕ, zero, suc, ◌+◌, ◌-◌, ◌*◌, ◌/◌, ◌%◌, ◌^◌, eqb, leb, ℤ, pos, negsuc, neg_ℤ, Option, Some, None, if◌then◌else◌}
 use Rattle.plane.specs.Basics.{is_nil}
 
 -- ---- reading
@@ -16,21 +16,17 @@ abbrev pub value_from : ℕ → List ℕ → ℕ
 value_from n [] = n
 value_from n (b ∷ bs) = value_from (10 * n + (b - 48)) bs
 
--- a field that is no number, or its number
-pub data Field : Type 0 where
-  no_number : Field
-  number : ℤ → Field
-
--- one digit or more that stand for a number of 64 signed bits
-unfoldable pub digits_of : Bool → List ℕ → Field
+-- one digit or more that stand for a number of 64 signed bits; None where they do not
+unfoldable pub digits_of : Bool → List ℕ → Option ℤ
 digits_of negative bs =
     let n = value_from 0 bs in
-    if is_nil bs || not (all_digits bs) then no_number
-    else if negative then (if leb n (2 ^ 63) then number (neg_ℤ (pos n)) else no_number)
-    else (if leb n (2 ^ 63 - 1) then number (pos n) else no_number)
+    if is_nil bs || not (all_digits bs) then None
+    else if negative then (if leb n (2 ^ 63) then Some (neg_ℤ (pos n)) else None)
+    else (if leb n (2 ^ 63 - 1) then Some (pos n) else None)
 
-unfoldable pub field : List ℕ → Field
-field [] = no_number
+-- a field's number; None where it is none
+unfoldable pub field : List ℕ → Option ℤ
+field [] = None
 field (b ∷ bs) = if eqb b 45 then digits_of true bs else digits_of false (b ∷ bs)
 
 -- ---- printing

@@ -1,29 +1,23 @@
 -- What a line of the clip program's input asks, of document 01's section 'The clip program'. A line is its bytes, line feed left out.
-use Rattle.std.specs.Prelude.{Bool, true, false, List, [], ◌∷◌, ℕ, length, eqb, ltb, ℤ, if◌then◌else◌}
+use Rattle.std.specs.Prelude.{Bool, true, false, List, [], ◌∷◌, ℕ, length, eqb, ltb, ℤ, Some, None, if◌then◌else◌}
+use Rattle.std.specs.List.{slice_split}
 use Rattle.plane.specs.Basics.{Try, refuse, ok, ◌>>=◌}
 use Rattle.plane.specs.Rectangle.{rect}
 use Rattle.plane.specs.declared.rect.Rect64.{Rect64}
-use Rattle.text.specs.Decimal.{no_number, number, field}
+use Rattle.text.specs.Decimal.{field}
 
 -- 'lines up to 4,096 bytes, line feed not counted'
 abbrev pub MAX_LINE : ℕ
 MAX_LINE = 4096
 
 -- ---- fields parted by commas: there is one more than commas
-abbrev pub put_first : ℕ → List (List ℕ) → List (List ℕ)
-put_first b [] = (b ∷ []) ∷ []
-put_first b (f ∷ fs) = (b ∷ f) ∷ fs
-
 abbrev pub fields : List ℕ → List (List ℕ)
-fields [] = [] ∷ []
-fields (b ∷ bs) =
-    let rest = fields bs in
-    if eqb b 44 then [] ∷ rest else put_first b rest
+fields = slice_split (λ b. eqb b 44)
 
 -- the numbers of all fields; 12 where one is none
 abbrev pub numbers : List (List ℕ) → Try (List ℤ)
 numbers [] = ok []
-numbers (f ∷ fs) = elim (field f) [ no_number ↦ refuse 12 | number z ↦ numbers fs >>= λ zs. ok (z ∷ zs) ]
+numbers (f ∷ fs) = elim (field f) [ None ↦ refuse 12 | Some z ↦ numbers fs >>= λ zs. ok (z ∷ zs) ]
 
 -- ---- what a line asks
 pub data Request : Type 0 where

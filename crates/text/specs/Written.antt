@@ -1,15 +1,15 @@
 -- What the functions that write a line promise: the line at the front of the lent list and the rest as it came, where the list can hold the line.
-use Rattle.std.specs.Prelude.{◌≡◌, refl, Bool, List, [], ◌∷◌, ◌++◌, ℕ, ◌+◌, ◌/◌, ◌≤◌, length, drop, leb, ℤ, pos, if◌then◌else◌}
+use Rattle.std.specs.Prelude.{◌≡◌, refl, Bool, List, [], ◌∷◌, ◌++◌, ℕ, ◌+◌, ◌/◌, ◌≤◌, length, drop, leb, ℤ, pos, Option, Some, None, IfSome, if◌then◌else◌}
 use Rattle.std.proofs.Common.{ap, arith}
 use Rattle.plane.specs.Points.{coordinates_of}
 use Rattle.plane.specs.declared.point.Point64.{Point64}
 use Rattle.text.specs.Printing.{line_of, path_line}
 
--- the answer is how many bytes the line has, and 0 where it does not fit
-pub record Written (line out : List ℕ) (r : ℕ) (after : List ℕ) : Type 0 where
-  pub count : r ≡ (if leb (length line) (length out) then length line else 0)
+-- the answer is how many bytes the line has, and None where it does not fit
+pub record Written (line out : List ℕ) (r : Option ℕ) (after : List ℕ) : Type 0 where
+  pub count : r ≡ (if leb (length line) (length out) then Some (length line) else None)
   pub list_after : after ≡ (if leb (length line) (length out) then line ++ drop (length line) out else out)
-  pub within : r ≤ length after
+  pub within : IfSome r (λ n. n ≤ length after)
 
 -- a path's line from its coordinates
 abbrev pub coordinates_line : Bool → ℤ → List ℤ → List ℕ

@@ -1,78 +1,55 @@
-// The numbers behind a line's letter: first they are counted, then stored.
-ghost use Rattle.std.specs.Prelude.{◌≡◌, ◌≤◌, ◌<◌, length, drop};
+// The numbers behind a line's letter, each with a comma before it: first they are counted, then stored.
+ghost use Rattle.std.specs.Prelude.{◌≡◌, ◌≤◌, length};
 ghost use Rattle.std.proofs.lemmas.List.Edits.{sets};
 ghost use Rattle.text.specs.Reading.{fields, numbers};
 ghost use Rattle.text.specs.Scanning.{counted, leading, behind, leading_behind};
 
-use crate::number::{Entry, number_at};
+use crate::number::number;
 
-// Whether all fields are numbers, and how many there are.
-#[derive(Clone, Copy)]
-pub(crate) enum Numbers {
-    Unreadable,
-    Count(usize),
-}
-
-// The fields from `at` on.
-fn count_numbers(line: &[u8], at: usize) -> Numbers
-    requires { at ≤ length line.now }
-    ensures { result ≡ counted 0 (numbers (fields (drop at line.now))) }
+// How many numbers the fields are, where all are numbers.
+fn count_numbers(bytes: &[u8]) -> Option<usize>
+    requires { length bytes.now ≤ 4096 }
+    ensures { result ≡ counted 0 (numbers (fields bytes.now)) }
 {
-    let mut count: usize = 0;
-    let mut from = at;
-    loop {
-        let e = number_at(line, from);
-        let Entry::Whole(_, next) = e else {
-            return Numbers::Unreadable;
-        };
+    let mut count = 0;
+    for field in bytes.split(|b| *b == b',') {
+        number(field)?;
         count += 1;
-        if next == line.len() {
-            return Numbers::Count(count);
-        }
-        from = next + 1;
     }
+    Some(count)
 }
 
-// The numbers of the fields from `at` on, up to one that is none, as many as the list can hold.
-fn store_numbers(line: &[u8], at: usize, list: &mut [i64])
-    requires { at ≤ length line.now }
-    ensures { list.new ≡ sets list.old 0 (leading (fields (drop at line.now))) }
+// The numbers of the fields, up to one that is none, as many as the list can hold.
+fn store_numbers(bytes: &[u8], list: &mut [i64])
+    ensures { list.new ≡ sets list.old 0 (leading (fields bytes.now)) }
 {
-    let mut i: usize = 0;
-    let mut from = at;
-    while i < list.len() {
-        let e = number_at(line, from);
-        let Entry::Whole(z, next) = e else {
+    for (i, field) in bytes.split(|b| *b == b',').enumerate() {
+        let Some(z) = number(field) else {
             return;
         };
-        list[i] = z;
-        i += 1;
-        if next == line.len() {
+        if list.len() <= i {
             return;
         }
-        from = next + 1;
+        list[i] = z;
     }
 }
 
 // How many numbers stand behind the letter.
-pub(crate) fn count_behind(line: &[u8]) -> Numbers
-    requires { 0 < length line.now }
-    ensures { result ≡ counted 0 (behind line.now) }
+pub(crate) fn count_behind(bytes: &[u8]) -> Option<usize>
+    requires { length bytes.now ≤ 4096 }
+    ensures { result ≡ counted 0 (behind bytes.now) }
 {
-    if line.len() == 1 {
-        return Numbers::Count(0);
+    if bytes.is_empty() {
+        return Some(0);
     }
-    if line[1] == 44 {
-        return count_numbers(line, 2);
-    }
-    Numbers::Unreadable
+    count_numbers(bytes.strip_prefix(b",")?)
 }
 
 // The numbers behind the letter, as many as the list can hold.
-pub(crate) fn store_behind(line: &[u8], list: &mut [i64])
-    ensures { list.new ≡ sets list.old 0 (leading_behind line.now) }
+pub(crate) fn store_behind(bytes: &[u8], list: &mut [i64])
+    ensures { list.new ≡ sets list.old 0 (leading_behind bytes.now) }
 {
-    if 2 <= line.len() {
-        store_numbers(line, 2, list);
+    if let Some(fields) = bytes.strip_prefix(b",") {
+        store_numbers(fields, list);
     }
 }

@@ -3,7 +3,6 @@
 
 pub mod comparing;
 mod decimal;
-mod digits;
 mod fields;
 mod number;
 mod numbers;

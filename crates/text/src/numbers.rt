@@ -6,29 +6,15 @@ ghost use Rattle.text.specs.Putting.{room_after, Put};
 
 use crate::decimal::{put_signed, signed_length};
 
-// Too little room; or what is left of it.
-#[derive(Clone, Copy)]
-pub(crate) enum Room {
-    Full,
-    Left(usize),
-}
-
-// What the numbers leave of `room` bytes.
-pub(crate) fn room_after(list: &[i64], room: usize) -> Room
+// What the numbers leave of `room` bytes; None where they need more.
+pub(crate) fn room_after(list: &[i64], room: usize) -> Option<usize>
     ensures { result ≡ room_after room (length (comma_numbers list.now)) }
 {
     let mut left = room;
-    let mut i: usize = 0;
-    while i < list.len() {
-        let z = list[i];
-        let need = signed_length(z);
-        if left <= need {
-            return Room::Full;
-        }
-        left -= need + 1;
-        i += 1;
+    for z in list {
+        left = left.checked_sub(signed_length(*z) + 1)?;
     }
-    Room::Left(left)
+    Some(left)
 }
 
 // A comma and `z` from `at` on; answers where they end.
@@ -36,7 +22,7 @@ fn put_number(z: i64, out: &mut [u8], at: usize) -> usize
     requires { at + length (44 ∷ signed_decimal z) ≤ length out.old }
     ensures { Put (44 ∷ signed_decimal z) at out.old result out.new }
 {
-    out[at] = 44;
+    out[at] = b',';
     put_signed(z, out, at + 1)
 }
 
@@ -46,11 +32,8 @@ pub(crate) fn put_numbers(list: &[i64], out: &mut [u8], at: usize) -> usize
     ensures { Put (comma_numbers list.now) at out.old result out.new }
 {
     let mut next = at;
-    let mut i: usize = 0;
-    while i < list.len() {
-        let z = list[i];
-        next = put_number(z, out, next);
-        i += 1;
+    for z in list {
+        next = put_number(*z, out, next);
     }
     next
 }

@@ -4,7 +4,7 @@ ghost use Rattle.text.specs.Printing.{line_of, rectangle_line};
 ghost use Rattle.text.specs.Putting.{Put};
 ghost use Rattle.text.specs.Written.{Written, coordinates_line};
 
-use crate::numbers::{Room, put_numbers, room_after};
+use crate::numbers::{put_numbers, room_after};
 use plane::rect::Rect64;
 
 // A letter, the numbers of two lists and a line feed, into a list that can hold them.
@@ -15,53 +15,43 @@ fn put_line(letter: u8, head: &[i64], tail: &[i64], out: &mut [u8]) -> usize
     out[0] = letter;
     let at = put_numbers(head, out, 1);
     let end = put_numbers(tail, out, at);
-    out[end] = 10;
+    out[end] = b'\n';
     end + 1
 }
 
-// A letter, the numbers of two lists, a line feed. Answers how many bytes the line has; where `out` cannot hold it, 0, and `out` stays as it came.
-fn write_line(letter: u8, head: &[i64], tail: &[i64], out: &mut [u8]) -> usize
+// A letter, the numbers of two lists, a line feed. Answers how many bytes the line has; where `out` cannot hold it, None, and `out` stays as it came.
+fn write_line(letter: u8, head: &[i64], tail: &[i64], out: &mut [u8]) -> Option<usize>
     ensures { Written (line_of letter (head.now ++ tail.now)) out.old result out.new }
 {
-    if out.len() < 2 {
-        return 0;
-    }
-    let first = room_after(head, out.len() - 2);
-    let Room::Left(more) = first else {
-        return 0;
-    };
-    let second = room_after(tail, more);
-    let Room::Left(_) = second else {
-        return 0;
-    };
-    put_line(letter, head, tail, out)
+    let room = out.len().checked_sub(2)?;
+    let more = room_after(head, room)?;
+    room_after(tail, more)?;
+    Some(put_line(letter, head, tail, out))
 }
 
 // The R line.
-pub fn write_rectangle(rect: Rect64, out: &mut [u8]) -> usize
+pub fn write_rectangle(rect: Rect64, out: &mut [u8]) -> Option<usize>
     ensures { Written (rectangle_line rect) out.old result out.new }
 {
     let head = [rect.left, rect.top];
     let tail = [rect.right, rect.bottom];
-    write_line(82, &head, &tail, out)
+    write_line(b'R', &head, &tail, out)
 }
 
 // `X`, the line and the refusal's number.
-pub fn write_refusal(line: i64, number: i64, out: &mut [u8]) -> usize
+pub fn write_refusal(line: i64, number: i64, out: &mut [u8]) -> Option<usize>
     ensures { Written (line_of 88 (line ∷ number ∷ [])) out.old result out.new }
 {
     let head = [line];
     let tail = [number];
-    write_line(88, &head, &tail, out)
+    write_line(b'X', &head, &tail, out)
 }
 
 // A returned path: its kind, its line, how many points it has, and their coordinates.
-pub fn write_path(closed: bool, line: i64, coordinates: &[i64], out: &mut [u8]) -> usize
+pub fn write_path(closed: bool, line: i64, coordinates: &[i64], out: &mut [u8]) -> Option<usize>
     ensures { Written (coordinates_line closed line coordinates.now) out.old result out.new }
 {
+    let letter = if closed { b'C' } else { b'L' };
     let head = [line, (coordinates.len() / 2) as i64];
-    if closed {
-        return write_line(67, &head, coordinates, out);
-    }
-    write_line(76, &head, coordinates, out)
+    write_line(letter, &head, coordinates, out)
 }

@@ -2,10 +2,10 @@
 use mathlib.Core.Path.{◌≡◌, refl, sym, subst}
 use mathlib.Core.Bool.{Bool, true, false, cond}
 use Prim.Native.Nat.{ℕ}
+use Rattle.std.specs.Prelude.{Option, None, Some}
+use Rattle.plane.specs.declared.crossing.SidePoint.{SidePoint}
 use Rattle.plane.specs.declared.point.Point64.{Point64}
 use Rattle.plane.specs.declared.location.Location.{Location}
-use Rattle.plane.specs.declared.crossing.Search.{Search}
-use Rattle.plane.specs.declared.crossing.Search.TheVariants.{Missed, Found}
 use Rattle.plane.specs.Basics.{Try, refuse, ok, ◌>>=◌}
 use Rattle.theorems.proofs.Tests.{never}
 use Rattle.theorems.proofs.Holds.{Holds, refused, held}
@@ -64,7 +64,7 @@ module _ {A B : Type 0} (R : A → B → Type 0) where
   alike_else true x x' e k = never refl e
   alike_else false x x' e k = k
 
-  pub alike_search : (m : Search) (x : Try A) (y : Try B) (f : Point64 → Location → Try A) (g : Point64 → Location → Try B) → Alike R x y → ((q : Point64) (t : Location) → Alike R (f q t) (g q t))
-      → Alike R (elim m [ Missed ↦ x | Found q t ↦ f q t ]) (elim m [ Missed ↦ y | Found q t ↦ g q t ])
-  alike_search Missed x y f g h k = h
-  alike_search (Found q t) x y f g h k = k q t
+  pub alike_search : (m : Option SidePoint) (x : Try A) (y : Try B) (f : Point64 → Location → Try A) (g : Point64 → Location → Try B) → Alike R x y → ((q : Point64) (t : Location) → Alike R (f q t) (g q t))
+      → Alike R (elim m [ None ↦ x | Some found ↦ f found.point found.side ]) (elim m [ None ↦ y | Some found ↦ g found.point found.side ])
+  alike_search None x y f g h k = h
+  alike_search (Some found) x y f g h k = k found.point found.side

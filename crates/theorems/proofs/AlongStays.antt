@@ -12,7 +12,7 @@ use Rattle.integers.specs.Tests.{eq_z, ne_eqZ, lt_ltZ}
 use Rattle.rounding.specs.Coordinate.{Limit, Crosses, is_negative, coordinate}
 use Rattle.rounding.proofs.Exact.{crosses_lt, difference_small}
 use Rattle.rounding.proofs.Nearby.{coordinate_between}
-use Rattle.plane.specs.declared.crossing.Meeting.TheVariants.{Met}
+use Rattle.std.specs.Prelude.{Some}
 use Rattle.plane.specs.declared.location.Location.TheVariants.{Left, Top, Right, Bottom, Inside}
 use Rattle.plane.specs.declared.point.Point64.{Point64}
 use Rattle.plane.specs.Limit.{Limited, AllLimited}
@@ -48,9 +48,9 @@ stays x1 y1 x2 y2 x3 lo hi a b c d k =
     coordinate_between y1 y2 lo hi (nat_abs (x1 -ℤ x3)) (nat_abs (x1 -ℤ x2)) b d (crosses_lt x1 x3 x2 k.crosses) (difference_small x1 x2 a c) k.behind_low k.before_high
 
 -- ---- an edge from a to b, upright or level
-module _ (p q z a b : Point64) (lo hi : ℤ) (l : lo <ℤ hi) (lim : AllLimited p q a b) (h : Passes p q a b) (m : intersection p q a b ≡ Met z) where
-  is_met : (w : Point64) → intersection p q a b ≡ Met w → w ≡ z
-  is_met w e = let f : Met w ≡ Met z = sym e ∙ m in cc
+module _ (p q z a b : Point64) (lo hi : ℤ) (l : lo <ℤ hi) (lim : AllLimited p q a b) (h : Passes p q a b) (m : intersection p q a b ≡ Some z) where
+  is_met : (w : Point64) → intersection p q a b ≡ Some w → w ≡ z
+  is_met w e = let f : Some w ≡ Some z = sym e ∙ m in cc
 
   by_edge : Sides (cross_product_sign p a b) (cross_product_sign q a b)
   by_edge = other_sides (cross_product_sign p a b) (cross_product_sign q a b) h.segment
@@ -59,7 +59,7 @@ module _ (p q z a b : Point64) (lo hi : ℤ) (l : lo <ℤ hi) (lim : AllLimited 
   by_segment = other_sides (cross_product_sign a p q) (cross_product_sign b p q) h.edge
 
   along_in : (A : Axes) (e : A.across b ≡ A.across a) → Ends (A.along a) (A.along b) lo hi → Limit (A.across p) → Limit (A.along p) → Limit (A.across q) → Limit (A.along q)
-      → (Crosses (A.across p) (A.across a) (A.across q) → intersection p q a b ≡ Met (part_way p q (nat_abs (A.across p -ℤ A.across a)) (nat_abs (A.across p -ℤ A.across q))))
+      → (Crosses (A.across p) (A.across a) (A.across q) → intersection p q a b ≡ Some (part_way p q (nat_abs (A.across p -ℤ A.across a)) (nat_abs (A.across p -ℤ A.across q))))
       → ((m n : ℕ) → A.along (part_way p q m n) ≡ coordinate (A.along p) (A.along q) (round binary64 false m n)) → (lo ≤ℤ A.along z) × (A.along z ≤ℤ hi)
   along_in A e ends i j k n meets part =
       let c = passed A p q a b lo hi e ends l by_edge.0 by_edge.1 by_edge.2 by_segment.0 by_segment.1 by_segment.2 in

@@ -8,6 +8,7 @@ use Prim.Native.Nat.{ℕ, zero, suc, ◌<◌}
 use lib.ListN.{length}
 use lib.Dec.{leb, ltb, nleb→lt, ltb→lt}
 use Rattle.integers.specs.Tests.{T_of, T_not_of}
+use Rattle.std.specs.Prelude.{None, is_some}
 use Rattle.plane.proofs.Limits.{rect_limited}
 use Rattle.plane.specs.declared.point.Point64.{Point64}
 use Rattle.plane.specs.Limit.{Limited, LimitedRect}
@@ -33,11 +34,9 @@ use Rattle.theorems.proofs.NextPoints.{Reached, reached}
 use Rattle.theorems.proofs.Passes.{sides_out, before_limited, get_location_is}
 use Rattle.theorems.proofs.Corners.{meets, four}
 use Rattle.theorems.proofs.FirstCrossing.{found_side}
-use Rattle.theorems.proofs.SecondSearch.{hit?}
 use Rattle.theorems.proofs.EachPass.{Kept, came, pass_kept, begun_kept, in_every_pass}
 use Rattle.theorems.proofs.StartSides.{Sides, SidesIn, next_sides, remain_sides, cross_sides}
 use Rattle.theorems.proofs.Tests.{never}
-use Rattle.plane.specs.declared.crossing.Search.TheVariants.{Missed}
 
 -- ---- from a side to a side
 arrived : (n : ℕ) (p loc : Location) (cw : Bool) → meets n p loc cw ≡ true → Arrives n p loc cw
@@ -72,14 +71,14 @@ beyond_out r p l l' (crosses s t i b') o b = ap is_inside (get_location_is r p) 
     same Inside e = never refl e
 
 -- ---- where no crossing is found the segment goes from a side to a side: into the rectangle and out of it one is found
-missed_sides : (r : Rect64) (lr : LimitedRect r) (k : Proper r) (p q : Point64) (lp : Limited p) (lq : Limited q) (l l' : Location) → Stop r p l l' → In r l q → get_intersection r p q l' ≡ Missed
+missed_sides : (r : Rect64) (lr : LimitedRect r) (k : Proper r) (p q : Point64) (lp : Limited p) (lq : Limited q) (l l' : Location) → Stop r p l l' → In r l q → get_intersection r p q l' ≡ None
     → (is_inside l ≡ false) × (is_inside l' ≡ false)
 missed_sides r lr k p q lp lq l l' t h e = go l l' t h e
   where
-    found_not : (l : Location) → Finds r p q l → get_intersection r p q l ≡ Missed → ⊥
-    found_not l f e = never refl (sym (ap hit? (search_told r lr k p q lp lq l ∙ ap (told r lr k p q lp lq) f.at)) ∙ ap hit? e)
+    found_not : (l : Location) → Finds r p q l → get_intersection r p q l ≡ None → ⊥
+    found_not l f e = never refl (sym (ap is_some (search_told r lr k p q lp lq l ∙ ap (told r lr k p q lp lq) f.at)) ∙ ap is_some e)
 
-    go : (l l' : Location) → Stop r p l l' → In r l q → get_intersection r p q l' ≡ Missed → (is_inside l ≡ false) × (is_inside l' ≡ false)
+    go : (l l' : Location) → Stop r p l l' → In r l q → get_intersection r p q l' ≡ None → (is_inside l ≡ false) × (is_inside l' ≡ false)
     go l l' (enters s i inner) h e = absurd (found_not Inside (enter_geo r k p q inner (record { side = s; beyond = side_in r s q h })).finds e)
     go l l' (crosses s t i b) h e = (sides_out s, sides_out t)
     go l l' (leaves t n) h e = absurd (found_not (loc t) (leave_geo r k p q t n h) e)

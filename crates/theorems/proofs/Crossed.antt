@@ -10,10 +10,10 @@ use Rattle.rounding.proofs.Whole.{Is}
 use Rattle.rounding.proofs.Exact.{crosses_sign, crosses_lt, quotient, size_neg, cross_is, difference_is, difference_small, left_product, right_product, level_product, neg_difference, none}
 use Rattle.rounding.proofs.Nearby.{coordinate_near}
 use Rattle.rounding.proofs.Inside.{not_eq_zero, rounded_above_zero, rounded_below_one}
+use Rattle.std.specs.Prelude.{Option, None, Some}
 use Rattle.plane.specs.declared.point.Point64.{Point64}
 use Rattle.plane.specs.declared.crossing.Crossing.{Crossing}
-use Rattle.plane.specs.declared.crossing.Crossing.TheVariants.{Nothing, At, Along}
-use Rattle.plane.specs.declared.crossing.Meeting.TheVariants.{Met}
+use Rattle.plane.specs.declared.crossing.Crossing.TheVariants.{At, Along}
 use Rattle.plane.specs.Limit.{AllLimited}
 use Rattle.plane.specs.Points as points
 use Rattle.plane.specs.Segment.{determinant, numerator, fraction, working_of, crossing_of, point_at, settled_of, intersection}
@@ -57,14 +57,14 @@ module _ (a b c d : Point64) (h : AllLimited a b c d) where
     determinant_not_zero : eq (determinant a b c d) zero_f ≡ false
     determinant_not_zero = not_eq_zero (determinant a b c d) (q *ℤ w) j (subst (λ (n : ℕ). 0 < n) (sym (size_mul q w)) (mul-pos q_pos W))
 
-    crossing_is : crossing_of (working_of a b c d) a b ≡ Along (fraction a b c d)
+    crossing_is : crossing_of (working_of a b c d) a b ≡ Some (Along (fraction a b c d))
     unfolding crossing_of working_of
     crossing_is =
         let t = fraction a b c d in
-        ap (λ (z : Bool). cond z Nothing (cond (le t zero_f) (At a) (cond (le one_f t) (At b) (Along t)))) determinant_not_zero
-        ∙ ap (λ (z : Bool). cond z (At a) (cond (le one_f t) (At b) (Along t)))
+        ap (λ (z : Bool). cond z None (cond (le t zero_f) (Some (At a)) (cond (le one_f t) (Some (At b)) (Some (Along t))))) determinant_not_zero
+        ∙ ap (λ (z : Bool). cond z (Some (At a)) (cond (le one_f t) (Some (At b)) (Some (Along t))))
         (ap (λ (z : Float). le z zero_f) fraction_is ∙ rounded_above_zero (nat_abs p) (nat_abs q) P L Q)
-        ∙ ap (λ (z : Bool). cond z (At b) (Along t))
+        ∙ ap (λ (z : Bool). cond z (Some (At b)) (Some (Along t)))
         (ap (λ (z : Float). le one_f z) fraction_is ∙ rounded_below_one (nat_abs p) (nat_abs q) P L Q)
 
     point : Point64
@@ -82,7 +82,7 @@ module _ (a b c d : Point64) (h : AllLimited a b c d) where
     crossed_at = record {
       point = point;
       is =
-          ap (λ (k : Crossing). settled_of k (working_of a b c d)) (crossing_is ∙ ap Along fraction_is) ∙ ap Met point_is;
+          ap (λ (k : Option Crossing). settled_of k (working_of a b c d)) (crossing_is ∙ ap (λ (t : Float). Some (Along t)) fraction_is) ∙ ap Some point_is;
       near_x = coordinate_near a.x b.x (nat_abs p) (nat_abs q) h.start.across h.end.across L;
       near_y = coordinate_near a.y b.y (nat_abs p) (nat_abs q) h.start.down h.end.down L;
     }
@@ -99,7 +99,7 @@ module _ (a b c d : Point64) (h : AllLimited a b c d) where
       (right_product (b.y -ℤ a.y) (d.x -ℤ c.x) (d.y -ℤ c.y) (b.x -ℤ a.x) z ∙ ap (λ (u : ℤ). u *ℤ (d.y -ℤ c.y)) (neg_difference b.x a.x)) determinant_is)
 
   pub upright_at : d.x ≡ c.x → 0 < nat_abs (d.y -ℤ c.y) → Crosses a.x c.x b.x
-      → intersection a b c d ≡ Met (part_way a b (nat_abs (a.x -ℤ c.x)) (nat_abs (a.x -ℤ b.x)))
+      → intersection a b c d ≡ Some (part_way a b (nat_abs (a.x -ℤ c.x)) (nat_abs (a.x -ℤ b.x)))
   unfolding point crossed_at upright_near
   upright_at e w k = (upright_near e w k).is
 
@@ -116,7 +116,7 @@ module _ (a b c d : Point64) (h : AllLimited a b c d) where
       (level_product (b.y -ℤ a.y) (d.x -ℤ c.x) (d.y -ℤ c.y) (b.x -ℤ a.x) z ∙ ap (λ (u : ℤ). u *ℤ neg_ℤ (d.x -ℤ c.x)) (neg_difference b.y a.y)) determinant_is)
 
   pub level_at : d.y ≡ c.y → 0 < nat_abs (d.x -ℤ c.x) → Crosses a.y c.y b.y
-      → intersection a b c d ≡ Met (part_way a b (nat_abs (a.y -ℤ c.y)) (nat_abs (a.y -ℤ b.y)))
+      → intersection a b c d ≡ Some (part_way a b (nat_abs (a.y -ℤ c.y)) (nat_abs (a.y -ℤ b.y)))
   unfolding point crossed_at level_near
   level_at e w k = (level_near e w k).is
 

@@ -2,7 +2,7 @@
 use mathlib.Core.Path.{◌≡◌, refl, sym, ap, ◌∙◌, subst}
 use mathlib.Core.Bool.{Bool, true, false, cond, not, ◌&&◌, ◌||◌, beq}
 use mathlib.Core.Logic.{◌⊎◌, inl, inr}
-use Prim.Native.Nat.{ℕ, ◌<◌, zero-le}
+use Prim.Native.Nat.{◌<◌, zero-le}
 use native.Mathlib.Nat.{lt_of_le_of_lt}
 use native.Mathlib.Omega.{arith}
 use lib.IntN.{ℤ, pos, nat_abs, ◌-ℤ◌, ◌*ℤ◌, *ℤ-zero, zero-*ℤ}
@@ -15,33 +15,34 @@ use Rattle.rounding.specs.Coordinate.{exact, Crosses, is_negative}
 use Rattle.rounding.proofs.Exact.{crosses_lt, none, left_product}
 use Rattle.rounding.proofs.Edge.{crosses_of_signs}
 use Rattle.rounding.proofs.Along.{between_ends}
+use Rattle.std.specs.Prelude.{Option, None}
+use Rattle.std.proofs.lemmas.Option.{none-some}
 use Rattle.plane.specs.declared.point.Point64.{Point64}
-use Rattle.plane.specs.declared.crossing.Meeting.{Meeting}
 use Rattle.plane.specs.Limit.{AllLimited}
 use Rattle.plane.specs.Segment.{intersection}
+use Rattle.theorems.proofs.Holds.{same_find}
 use Rattle.theorems.proofs.Crossed.{near_crossing}
 use Rattle.plane.specs.declared.location.Location.{Location}
-use Rattle.plane.specs.declared.crossing.Search.TheVariants.{Missed, Found}
 use Rattle.plane.specs.Points.{same_point}
 use Rattle.plane.specs.Signs.{cross_product_sign, is_horizontal}
-use Rattle.plane.specs.Intersection.{at_end, get_segment_intersection, met}
+use Rattle.plane.specs.Intersection.{found_at, at_end, get_segment_intersection, met}
 use Rattle.theorems.proofs.Tests.{never}
 use Rattle.theorems.proofs.CrossingSigns.{sgn_zero, sgn_facts, differ, NearBy, apart, at_start, at_finish, crosses_between, Ends, ordered, along_edge, sgn_facts', differ_back, unlike_plain, unlike_first}
 
 -- ---- what is found, case by case
 module _ (s : Location) (q : Point64) (t : Location) where
-  chain : {W : Type 0} (b : Bool) (x y : Meeting) → (b ≡ true → met s x ≡ Found q t → W) → (b ≡ false → met s y ≡ Found q t → W) → met s (cond b x y) ≡ Found q t → W
+  chain : {W : Type 0} (b : Bool) (x y : Option Point64) → (b ≡ true → met s x ≡ found_at q t → W) → (b ≡ false → met s y ≡ found_at q t → W) → met s (cond b x y) ≡ found_at q t → W
   chain true x y h k e = h refl e
   chain false x y h k e = k refl e
 
-  nothing : {W : Type 0} → Missed ≡ Found q t → W
-  nothing e = let z : ◌≡◌ {A = ℕ} 0 1 = cc in absurd (omega arith)
+  nothing : {W : Type 0} → None ≡ found_at q t → W
+  nothing e = absurd (none-some _ e)
 
-  same : (p : Point64) → Found p s ≡ Found q t → q ≡ p
-  same p e = cc
+  same : (p : Point64) → found_at p s ≡ found_at q t → q ≡ p
+  same p e = (same_find (sym e)).0
 
   -- an end of one on the other: the end itself
-  end_is : (p a b : Point64) → met s (at_end p a b) ≡ Found q t → q ≡ p
+  end_is : (p a b : Point64) → met s (at_end p a b) ≡ found_at q t → q ≡ p
   unfolding at_end
   end_is p a b =
       chain (same_point p a || same_point p b) _ _ (λ _ e. same p e)
@@ -105,7 +106,7 @@ module _ (a b c d : Point64) (lo hi : ℤ) (e : d.x ≡ c.x) (ends : Ends c.y d.
       omega arith
 
   -- an end of the segment on the edge
-  touch : (s : Location) (q : Point64) (t : Location) (p : Point64) → ((lo ≤ℤ p.y) → (p.y ≤ℤ hi) → ByUpright p) → met s (at_end p c d) ≡ Found q t → Got c d q (ByUpright q)
+  touch : (s : Location) (q : Point64) (t : Location) (p : Point64) → ((lo ≤ℤ p.y) → (p.y ≤ℤ hi) → ByUpright p) → met s (at_end p c d) ≡ found_at q t → Got c d q (ByUpright q)
   unfolding at_end
   touch s q t p f =
       chain s q t (same_point p c || same_point p d) _ _ (λ b m. go (one_of p c d b) (same s q t p m))
@@ -122,7 +123,7 @@ module _ (a b c d : Point64) (lo hi : ℤ) (e : d.x ≡ c.x) (ends : Ends c.y d.
       → beq (lt_z (pos 0) (cross_product_sign a c d)) (lt_z (pos 0) (cross_product_sign b c d)) ≡ false
       → eq_z (cross_product_sign c a b) (pos 0) ≡ false → eq_z (cross_product_sign d a b) (pos 0) ≡ false
       → beq (lt_z (pos 0) (cross_product_sign c a b)) (lt_z (pos 0) (cross_product_sign d a b)) ≡ false
-      → met s (intersection a b c d) ≡ Found q t → ByUpright q
+      → met s (intersection a b c d) ≡ found_at q t → ByUpright q
   unfolding cross_product_sign
   passing s q t z1 z2 n12 z3 z4 n34 m =
       let v1 = off_value a z1 in
@@ -134,14 +135,14 @@ module _ (a b c d : Point64) (lo hi : ℤ) (e : d.x ≡ c.x) (ends : Ends c.y d.
       let B = ordered (exact a.y b.y (nat_abs (a.x -ℤ c.x)) (nat_abs (a.x -ℤ b.x))) c.y d.y lo hi (nat_abs (a.x -ℤ b.x)) l ends
       (between_ends a.x a.y b.x b.y c.x c.y d.y K v3.0 v4.0 (differ_back _ _ (is_negative ((a.x -ℤ c.x) *ℤ (b.y -ℤ a.y) -ℤ (a.y -ℤ c.y) *ℤ (b.x -ℤ a.x))) (is_negative ((a.x -ℤ c.x) *ℤ (b.y -ℤ a.y) -ℤ (a.y -ℤ d.y) *ℤ (b.x -ℤ a.x))) n34 v3.1 v4.1)) in
       let f = (near_crossing a b c d lim).upright e (apart d.y c.y tall) K in
-      let p : q ≡ f.point = same s q t f.point (subst (λ (k : Meeting). met s k ≡ Found q t) f.is m) in
+      let p : q ≡ f.point = same s q t f.point (subst (λ (k : Option Point64). met s k ≡ found_at q t) f.is m) in
       subst ByUpright (sym p) (record {
         crossed = record { extends = lt_of_le_of_lt zero-le (crosses_lt a.x c.x b.x K); crosses = crosses_between a.x c.x b.x K; not_before = B.0; not_behind = B.1 };
         near_across = f.near_x;
         near_along = f.near_y;
       })
 
-  pub upright_got : (s : Location) (q : Point64) (t : Location) → met s (get_segment_intersection a b c d) ≡ Found q t → Got c d q (ByUpright q)
+  pub upright_got : (s : Location) (q : Point64) (t : Location) → met s (get_segment_intersection a b c d) ≡ found_at q t → Got c d q (ByUpright q)
   unfolding get_segment_intersection
   upright_got s q t =
       chain s q t (eq_z (cross_product_sign a c d) (pos 0)) _ _
@@ -190,7 +191,7 @@ module _ (a b c d : Point64) (lo hi : ℤ) (e : d.y ≡ c.y) (ends : Ends c.x d.
       let k = (level_value p h).0 in
       omega arith
 
-  level_touch : (s : Location) (q : Point64) (t : Location) (p : Point64) → ((lo ≤ℤ p.x) → (p.x ≤ℤ hi) → ByLevel p) → met s (at_end p c d) ≡ Found q t → Got c d q (ByLevel q)
+  level_touch : (s : Location) (q : Point64) (t : Location) (p : Point64) → ((lo ≤ℤ p.x) → (p.x ≤ℤ hi) → ByLevel p) → met s (at_end p c d) ≡ found_at q t → Got c d q (ByLevel q)
   unfolding at_end
   level_touch s q t p f =
       chain s q t (same_point p c || same_point p d) _ _ (λ b m. go (one_of p c d b) (same s q t p m))
@@ -208,7 +209,7 @@ module _ (a b c d : Point64) (lo hi : ℤ) (e : d.y ≡ c.y) (ends : Ends c.x d.
       → beq (lt_z (pos 0) (cross_product_sign a c d)) (lt_z (pos 0) (cross_product_sign b c d)) ≡ false
       → eq_z (cross_product_sign c a b) (pos 0) ≡ false → eq_z (cross_product_sign d a b) (pos 0) ≡ false
       → beq (lt_z (pos 0) (cross_product_sign c a b)) (lt_z (pos 0) (cross_product_sign d a b)) ≡ false
-      → met s (intersection a b c d) ≡ Found q t → ByLevel q
+      → met s (intersection a b c d) ≡ found_at q t → ByLevel q
   unfolding cross_product_sign
   level_passing s q t z1 z2 n12 z3 z4 n34 m =
       let v1 = level_value a z1 in
@@ -220,14 +221,14 @@ module _ (a b c d : Point64) (lo hi : ℤ) (e : d.y ≡ c.y) (ends : Ends c.x d.
       let B = ordered (exact a.x b.x (nat_abs (a.y -ℤ c.y)) (nat_abs (a.y -ℤ b.y))) c.x d.x lo hi (nat_abs (a.y -ℤ b.y)) l ends
       (between_ends a.y a.x b.y b.x c.y c.x d.x K v3.0 v4.0 (unlike_plain _ _ _ _ n34 v3.1 v4.1)) in
       let f = (near_crossing a b c d lim).level e (apart d.x c.x wide) K in
-      let p : q ≡ f.point = same s q t f.point (subst (λ (k : Meeting). met s k ≡ Found q t) f.is m) in
+      let p : q ≡ f.point = same s q t f.point (subst (λ (k : Option Point64). met s k ≡ found_at q t) f.is m) in
       subst ByLevel (sym p) (record {
         crossed = record { extends = lt_of_le_of_lt zero-le (crosses_lt a.y c.y b.y K); crosses = crosses_between a.y c.y b.y K; not_before = B.0; not_behind = B.1 };
         near_across = f.near_y;
         near_along = f.near_x;
       })
 
-  pub level_got : (s : Location) (q : Point64) (t : Location) → met s (get_segment_intersection a b c d) ≡ Found q t → Got c d q (ByLevel q)
+  pub level_got : (s : Location) (q : Point64) (t : Location) → met s (get_segment_intersection a b c d) ≡ found_at q t → Got c d q (ByLevel q)
   unfolding get_segment_intersection
   level_got s q t =
       chain s q t (eq_z (cross_product_sign a c d) (pos 0)) _ _

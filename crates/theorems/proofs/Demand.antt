@@ -16,18 +16,18 @@ use Rattle.integers.specs.Tests.{leZ_false}
 use Rattle.integers.specs.Ring.{var, ◌⊕◌, ◌⊖◌, ◌⊗◌, ring}
 use Rattle.rounding.specs.Coordinate.{exact, Near}
 use Rattle.rounding.proofs.Edge.{low_side, high_side}
+use Rattle.std.specs.Prelude.{None}
 use Rattle.plane.specs.declared.point.Point64.{Point64}
 use Rattle.plane.specs.Limit.{LimitedRect, Limited, AllLimited, in_limit, all_in_limit, rect_in_limit}
 use Rattle.plane.proofs.Limits.{rect_limited}
 use Rattle.plane.specs.declared.rect.Rect64.{Rect64}
 use Rattle.plane.specs.declared.location.Location.{Location}
 use Rattle.plane.specs.declared.location.Location.TheVariants.{Left, Top, Right, Bottom, Inside}
-use Rattle.plane.specs.declared.crossing.Search.TheVariants.{Missed, Found}
 use Rattle.plane.specs.Basics.{ok}
 use Rattle.plane.specs.Points.{pt_at, point, origin, points_of}
 use Rattle.plane.specs.Rectangle.{as_path, is_empty, beyond}
 use Rattle.plane.specs.Locations.{same_location, lower, upper}
-use Rattle.plane.specs.Intersection.{edge_intersection, side_intersection, get_intersection}
+use Rattle.plane.specs.Intersection.{found_at, edge_intersection, side_intersection, get_intersection}
 use Rattle.reference.specs.Clip.{execute}
 use Rattle.reference.specs.Lines.{execute_lines}
 use Rattle.theorems.specs.Demand.{ExactCrossing, NearTo, Segment, onward, closing, turned, Source, input_point, corner_point, crossing, AtMostOneOutside, Sourced, Between}
@@ -55,7 +55,7 @@ module _ (r : Rect64) (lr : LimitedRect r) (wide : r.left <ℤ r.right) (high : 
   left_bottom : Limited (point r.left r.bottom)
   left_bottom = record { across = lr.left; down = lr.bottom }
 
-  edge_hit : (s : Location) → same_location s Inside ≡ false → (q : Point64) (t : Location) → edge_intersection r s a b ≡ Found q t → Hit r a b q
+  edge_hit : (s : Location) → same_location s Inside ≡ false → (q : Point64) (t : Location) → edge_intersection r s a b ≡ found_at q t → Hit r a b q
   unfolding edge_intersection
   edge_hit Left i q t m = go (upright_got a b _ _ r.top r.bottom refl (inl (refl, refl)) high (corners_limited _ _ left_top left_bottom) Left q t m)
     where
@@ -83,11 +83,11 @@ module _ (r : Rect64) (lr : LimitedRect r) (wide : r.left <ℤ r.right) (high : 
       go (got_near n) = at_crossing Bottom (record { is_side = i; extends = n.crossed.extends; crosses = n.crossed.crosses; not_before = n.crossed.not_before; not_behind = n.crossed.not_behind }) (record { near_x = n.near_along; near_y = n.near_across })
   edge_hit Inside i q t m = let z : ◌≡◌ {A = ℕ} 0 1 = cc in absurd (omega arith)
 
-  side_hit : (s : Location) → same_location s Inside ≡ false → same_location (lower s) Inside ≡ false → same_location (upper s) Inside ≡ false → (q : Point64) (t : Location) → side_intersection r s a b ≡ Found q t → Hit r a b q
+  side_hit : (s : Location) → same_location s Inside ≡ false → same_location (lower s) Inside ≡ false → same_location (upper s) Inside ≡ false → (q : Point64) (t : Location) → side_intersection r s a b ≡ found_at q t → Hit r a b q
   unfolding side_intersection
   side_hit s i j k q t =
       or_cases (edge_intersection r s a b) _ q t (edge_hit s i q t)
-      (or_cases (cond (beyond r (lower s) a) (edge_intersection r (lower s) a b) Missed) _ q t
+      (or_cases (cond (beyond r (lower s) a) (edge_intersection r (lower s) a b) None) _ q t
       (guarded (beyond r (lower s) a) (edge_intersection r (lower s) a b) q t (edge_hit (lower s) j q t)) (edge_hit (upper s) k q t))
 
   pub search_hits : Searches r a b

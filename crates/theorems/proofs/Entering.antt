@@ -1,6 +1,6 @@
 -- Entering the rectangle finds a side: from a point strictly inside, the search toward a point on or beyond a side cannot miss.
 -- So the premise `EntryFound` of the area equation holds within the coordinate limit.
-use Rattle.std.specs.Prelude.{if◌then◌else◌}
+use Rattle.std.specs.Prelude.{if◌then◌else◌, None, is_some}
 use mathlib.Core.Path.{◌≡◌, refl, sym, ◌∙◌, ap}
 use mathlib.Core.Bool.{Bool, true, false, cond}
 use mathlib.Core.List.{List}
@@ -18,8 +18,6 @@ use Rattle.plane.specs.Limit.{Limited, all_in_limit, rect_in_limit, LimitedRect}
 use Rattle.plane.specs.declared.rect.Rect64.{Rect64}
 use Rattle.plane.specs.declared.location.Location.{Location}
 use Rattle.plane.specs.declared.location.Location.TheVariants.{Left, Top, Right, Bottom, Inside}
-use Rattle.plane.specs.declared.crossing.Search.{Search}
-use Rattle.plane.specs.declared.crossing.Search.TheVariants.{Missed, Found}
 use Rattle.plane.specs.Points.{origin, pt_at, points_of}
 use Rattle.plane.specs.Rectangle.{is_empty, beyond_or_on}
 use Rattle.plane.specs.Intersection.{get_intersection}
@@ -68,16 +66,12 @@ strictly r Right p i h e = let t = three (beyond_or_on r Left p) (beyond_or_on r
 strictly r Bottom p i h e = let t = three (beyond_or_on r Top p) (beyond_or_on r Left p) (beyond_or_on r Right p) Top Left Right refl refl refl e in inner r p t.1 t.0 t.2 h
 strictly r Inside p i h e = absurd (never refl i)
 
-abbrev hit? : Search → Bool
-hit? Missed = false
-hit? (Found q l) = true
-
 -- The segment from p, strictly inside, to q, on or beyond a side, leaves the rectangle through a point of one of the four edges, and the
 -- search from inside tries all four.
-pub search_enters : (r : Rect64) → LimitedRect r → Proper r → (p q : Point64) → Limited p → Limited q → Inner r p → Outside r q → get_intersection r p q Inside ≡ Missed → ⊥
+pub search_enters : (r : Rect64) → LimitedRect r → Proper r → (p q : Point64) → Limited p → Limited q → Inner r p → Outside r q → get_intersection r p q Inside ≡ None → ⊥
 search_enters r lr k p q lp lq i o e =
     let n = enter r k p q i o in
-    never refl (sym (ap hit? (search_told r lr k p q lp lq Inside ∙ ap (told r lr k p q lp lq) n.finds.at)) ∙ ap hit? e)
+    never refl (sym (ap is_some (search_told r lr k p q lp lq Inside ∙ ap (told r lr k p q lp lq) n.finds.at)) ∙ ap is_some e)
 
 before_limited : (path : List Point64) → All Limited path → (k : ℕ) → k < length path → Limited (pt_before path k)
 before_limited path l k h = go (ltb 0 k)

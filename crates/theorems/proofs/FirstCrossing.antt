@@ -1,5 +1,6 @@
 -- Once the walk has found a crossing, its first crossing is a side.
-use Rattle.std.specs.Prelude.{if◌then◌else◌}
+use Rattle.std.specs.Prelude.{if◌then◌else◌, Option, None, Some}
+use Rattle.std.proofs.lemmas.Option.{none-some}
 use mathlib.Core.Path.{◌≡◌, refl, subst}
 use mathlib.Core.Bool.{Bool, true, false, cond, not, ◌&&◌}
 use mathlib.Core.List.{List, []}
@@ -11,21 +12,18 @@ use lib.Signed.{le_z, lt_z, ◌<ℤ◌}
 use Rattle.integers.specs.Order.{zint}
 use Rattle.integers.specs.Tests.{eq_z, eqZ_true, ltZ_true, le_leZ}
 use Rattle.plane.specs.declared.point.Point64.{Point64}
-use Rattle.plane.specs.declared.crossing.Meeting.{Meeting}
-use Rattle.plane.specs.declared.crossing.Meeting.TheVariants.{Apart, Met}
 use Rattle.plane.specs.declared.rect.Rect64.{Rect64}
 use Rattle.plane.specs.declared.location.Location.{Location}
 use Rattle.plane.specs.declared.location.Location.TheVariants.{Left, Top, Right, Bottom, Inside}
-use Rattle.plane.specs.declared.crossing.Search.TheVariants.{Missed, Found}
 use Rattle.plane.specs.Basics.{ok}
 use Rattle.plane.specs.declared.location.Spot.{Spot}
 use Rattle.plane.specs.Points.{pt_at, same_point}
 use Rattle.plane.specs.Locations.{same_location, lower, upper, get_adjacent_location, is_inside}
 use Rattle.plane.specs.Rectangle.{get_location, mid_point, as_path, beyond, beyond_or_on}
-use Rattle.plane.specs.Intersection.{edge_from, edge_to, get_segment_intersection, met, edge_intersection, side_intersection, get_intersection}
+use Rattle.plane.specs.Intersection.{found_at, edge_from, edge_to, get_segment_intersection, met, edge_intersection, side_intersection, get_intersection}
 use Rattle.plane.specs.Signs.{is_clockwise_dir}
 use Rattle.reference.specs.Walk.{Walk, add, push_start_loc, add_corner_prev_curr, add_corners, push_start_locs, next_side, State, Pass, remain_outside, enter, pass_to, pass_through, leave, cross_boundary, pt_before}
-use Rattle.theorems.proofs.Holds.{Holds, refused, held, bind, either, anything, or_cases, guarded, by_second_search}
+use Rattle.theorems.proofs.Holds.{Holds, refused, held, bind, either, anything, or_cases, guarded, by_second_search, same_find}
 use Rattle.theorems.proofs.Tests.{not-false}
 
 -- The one fact of geometry that the area equation asks for (proved in Entering): where the walk comes from a point on or beyond side s to a point strictly inside, the search for a crossing finds one.
@@ -34,29 +32,29 @@ use Rattle.theorems.proofs.Tests.{not-false}
 abbrev pub EntryFound : Rect64 → List Point64 → Type 0
 EntryFound rect path =
     (s : Location) (k : ℕ) → k < length path → is_inside s ≡ false → beyond_or_on rect s (pt_before path k) ≡ true → beyond_or_on rect s (pt_at path k) ≡ false → next_side rect s (pt_at path k) ≡ Inside
-    → get_intersection rect (pt_at path k) (pt_before path k) Inside ≡ Missed → ⊥
+    → get_intersection rect (pt_at path k) (pt_before path k) Inside ≡ None → ⊥
 
 pub clash : {W : Type 0} (b : Bool) → b ≡ true → b ≡ false → W
 clash b p q = let z : ◌≡◌ {A = ℕ} 0 1 = cc in absurd (omega arith)
 
 -- ---- a search finds a side
-met_side : (s : Location) (c : Meeting) (q : Point64) (t : Location) → is_inside s ≡ false → met s c ≡ Found q t → is_inside t ≡ false
-met_side s Apart q t h e = let z : ◌≡◌ {A = ℕ} 0 1 = cc in absurd (omega arith)
-met_side s (Met p) q t h e = let z : s ≡ t = cc in subst (λ (l : Location). is_inside l ≡ false) z h
+met_side : (s : Location) (c : Option Point64) (q : Point64) (t : Location) → is_inside s ≡ false → met s c ≡ found_at q t → is_inside t ≡ false
+met_side s None q t h e = absurd (none-some _ e)
+met_side s (Some p) q t h e = subst (λ (l : Location). is_inside l ≡ false) (same_find e).1 h
 
 module _ (r : Rect64) (a b : Point64) (q : Point64) (t : Location) where
-  edge_side : (s : Location) → is_inside s ≡ false → edge_intersection r s a b ≡ Found q t → is_inside t ≡ false
+  edge_side : (s : Location) → is_inside s ≡ false → edge_intersection r s a b ≡ found_at q t → is_inside t ≡ false
   unfolding edge_intersection
   edge_side s h e = met_side s (get_segment_intersection a b (pt_at (as_path r) (edge_from s)) (pt_at (as_path r) (edge_to s))) q t h e
 
-  side_side : (s : Location) → is_inside s ≡ false → is_inside (lower s) ≡ false → is_inside (upper s) ≡ false → side_intersection r s a b ≡ Found q t → is_inside t ≡ false
+  side_side : (s : Location) → is_inside s ≡ false → is_inside (lower s) ≡ false → is_inside (upper s) ≡ false → side_intersection r s a b ≡ found_at q t → is_inside t ≡ false
   unfolding side_intersection
   side_side s i j k =
       or_cases (edge_intersection r s a b) _ q t (edge_side s i)
-      (or_cases (cond (beyond r (lower s) a) (edge_intersection r (lower s) a b) Missed) _ q t
+      (or_cases (cond (beyond r (lower s) a) (edge_intersection r (lower s) a b) None) _ q t
       (guarded (beyond r (lower s) a) (edge_intersection r (lower s) a b) q t (edge_side (lower s) j)) (edge_side (upper s) k))
 
-  pub found_side : (s : Location) → get_intersection r a b s ≡ Found q t → is_inside t ≡ false
+  pub found_side : (s : Location) → get_intersection r a b s ≡ found_at q t → is_inside t ≡ false
   unfolding get_intersection
   found_side Left = side_side Left refl refl refl
   found_side Top = side_side Top refl refl refl

@@ -1,5 +1,5 @@
 -- The closed walk without a count: by recursion on the points, each of which is met once. The loop of the definitions, with its count, is this fold.
-use Rattle.std.specs.Prelude.{if◌then◌else◌}
+use Rattle.std.specs.Prelude.{if◌then◌else◌, Option, None, Some}
 use mathlib.Core.Path.{◌≡◌, refl, sym, ◌∙◌, ap, subst}
 use mathlib.Core.Bool.{Bool, true, false, cond}
 use mathlib.Core.List.{List, [], ◌∷◌}
@@ -10,13 +10,12 @@ use lib.Seq.{drop-cons}
 use lib.Dec.{leb, ltb, ltb→lt, nltb→le}
 use lib.Signed.{lt_z, le_z}
 use Rattle.integers.specs.Tests.{T_of, T_not_of, cond_true}
+use Rattle.plane.specs.declared.crossing.SidePoint.{SidePoint}
 use Rattle.plane.specs.declared.point.Point64.{Point64}
 use Rattle.plane.specs.Limit.{Limited, LimitedRect}
 use Rattle.plane.specs.declared.rect.Rect64.{Rect64}
 use Rattle.plane.specs.declared.location.Location.{Location}
 use Rattle.plane.specs.declared.location.Location.TheVariants.{Left, Top, Right, Bottom, Inside}
-use Rattle.plane.specs.declared.crossing.Search.{Search}
-use Rattle.plane.specs.declared.crossing.Search.TheVariants.{Missed, Found}
 use Rattle.plane.specs.Basics.{lead, Try, refuse, ok, ◌>>=◌}
 use Rattle.plane.specs.Points.{origin, pt_at}
 use Rattle.plane.specs.Locations.{same_location, is_inside}
@@ -208,13 +207,13 @@ module _ (full : ℕ → Bool) (r : Rect64) (path : List Point64) where
   abbrev pub pass_at : State → Location → Point64 → Point64 → Pass
   pass_at s l q p = record { walk = s.walk; i = s.i; prev = s.loc; loc = l; crossing_prev = s.crossing_loc; first_cross = s.first_cross; prev_pt = q; pt = p }
 
-  abbrev turned : Pass → Search → Try State
-  turned c Missed = remain_outside full r c
-  turned c (Found ip l) = cross_boundary full r c ip l
+  abbrev turned : Pass → Option SidePoint → Try State
+  turned c None = remain_outside full r c
+  turned c (Some found) = cross_boundary full r c found.point found.side
 
-  abbrev pub turned_past : Pass → Search → Try State
-  turned_past c Missed = remain_outside full r c
-  turned_past c (Found ip l) = cross_boundary full r c ip l >>= go_past full r c.pt
+  abbrev pub turned_past : Pass → Option SidePoint → Try State
+  turned_past c None = remain_outside full r c
+  turned_past c (Some found) = cross_boundary full r c found.point found.side >>= go_past full r c.pt
 
   stopped_at : (s : State) (l : Location) → s.i < length path
       → pass_from full r path s (record { walk = s.walk; loc = l; i = s.i })
@@ -225,9 +224,9 @@ module _ (full : ℕ → Bool) (r : Rect64) (path : List Point64) where
       c : Pass
       c = pass_at s l (pt_before path s.i) (pt_at path s.i)
 
-      go : (z : Search) → ◌≡◌ {A = Try State} (elim z [ Missed ↦ remain_outside full r c | Found ip l ↦ cross_boundary full r c ip l ]) (turned c z)
-      go Missed = refl
-      go (Found ip l) = refl
+      go : (z : Option SidePoint) → ◌≡◌ {A = Try State} (elim z [ None ↦ remain_outside full r c | Some found ↦ cross_boundary full r c found.point found.side ]) (turned c z)
+      go None = refl
+      go (Some found) = refl
 
   pub at_stopped : (s : State) (q p : Point64) (l : Location) → next_location full r s.loc p ≡ l → same_location l s.loc ≡ false
       → at_point full r s q p ≡ turned_past (pass_at s l q p) (get_intersection r p q l)
@@ -237,9 +236,9 @@ module _ (full : ℕ → Bool) (r : Rect64) (path : List Point64) where
       ∙ go (next_location full r s.loc p) (get_intersection r p q (next_location full r s.loc p))
       ∙ ap (λ (z : Location). turned_past (pass_at s z q p) (get_intersection r p q z)) e
     where
-      go : (x : Location) (z : Search) → ◌≡◌ {A = Try State} (elim z [ Missed ↦ remain_outside full r (pass_at s x q p) | Found ip l ↦ cross_boundary full r (pass_at s x q p) ip l >>= go_past full r p ]) (turned_past (pass_at s x q p) z)
-      go x Missed = refl
-      go x (Found ip l) = refl
+      go : (x : Location) (z : Option SidePoint) → ◌≡◌ {A = Try State} (elim z [ None ↦ remain_outside full r (pass_at s x q p) | Some found ↦ cross_boundary full r (pass_at s x q p) found.point found.side >>= go_past full r p ]) (turned_past (pass_at s x q p) z)
+      go x None = refl
+      go x (Some found) = refl
 
   pub at_gone : (s : State) (q p : Point64) → step r s.loc p ≡ skip → at_point full r s q p ≡ go_past full r p s
   unfolding at_point
@@ -289,13 +288,13 @@ module _ (full : ℕ → Bool) (r : Rect64) (path : List Point64) where
           c : Pass
           c = pass_at s l q p
 
-          go : (z : Search) → get_intersection r p q l ≡ z → (turned c z >>= passes full r path n) ≡ (turned_past c z >>= λ t. walk_on full r t p ps)
-          go Missed e = behind ps ih s.i rs n (omega arith) (remain_outside full r c) (remain_next c)
-          go (Found ip cl) e =
-              bind_same (Stays full r lr k c) (cross_boundary full r c ip cl) _ _
-              (cross_stays full r lr k c ip cl (all_at Limited path s.i origin lim h) (before_limited full r path lr k lim s.i h) t e)
+          go : (z : Option SidePoint) → get_intersection r p q l ≡ z → (turned c z >>= passes full r path n) ≡ (turned_past c z >>= λ t. walk_on full r t p ps)
+          go None e = behind ps ih s.i rs n (omega arith) (remain_outside full r c) (remain_next c)
+          go (Some found) e =
+              bind_same (Stays full r lr k c) (cross_boundary full r c found.point found.side) _ _
+              (cross_stays full r lr k c found.point found.side (all_at Limited path s.i origin lim h) (before_limited full r path lr k lim s.i h) t e)
               (λ u g. once_more n s.i h rs (omega arith) u g)
-              ∙ sym (assoc (cross_boundary full r c ip cl) (go_past full r p) (λ u. walk_on full r u p ps))
+              ∙ sym (assoc (cross_boundary full r c found.point found.side) (go_past full r p) (λ u. walk_on full r u p ps))
 
     folds : (ps : List Point64) → Folds ps
     unfolding walk_over

@@ -1,5 +1,5 @@
 -- The walk of lines without a count, as proofs/Fold for the closed walk.
-use Rattle.std.specs.Prelude.{if◌then◌else◌}
+use Rattle.std.specs.Prelude.{if◌then◌else◌, Option, None, Some}
 use mathlib.Core.Path.{◌≡◌, refl, sym, ◌∙◌, ap, subst}
 use mathlib.Core.Bool.{Bool, true, false, not}
 use mathlib.Core.List.{List, [], ◌∷◌}
@@ -8,11 +8,10 @@ use native.Mathlib.Omega.{arith}
 use lib.ListN.{length, drop}
 use lib.Dec.{leb, ltb, ltb→lt, nltb→le}
 use Rattle.integers.specs.Tests.{T_of, T_not_of, cond_true}
+use Rattle.plane.specs.declared.crossing.SidePoint.{SidePoint}
 use Rattle.plane.specs.declared.point.Point64.{Point64}
 use Rattle.plane.specs.declared.rect.Rect64.{Rect64}
 use Rattle.plane.specs.declared.location.Location.{Location}
-use Rattle.plane.specs.declared.crossing.Search.{Search}
-use Rattle.plane.specs.declared.crossing.Search.TheVariants.{Missed, Found}
 use Rattle.plane.specs.Basics.{Try, ok, ◌>>=◌}
 use Rattle.plane.specs.Points.{pt_at}
 use Rattle.plane.specs.Locations.{same_location, is_inside}
@@ -40,7 +39,7 @@ module _ (full : ℕ → Bool) (rect : Rect64) where
       let l = next_location full rect s.loc p in
       let nx : Next = record { walk = s.walk; loc = l; i = s.i } in
       let stopped : Try Next =
-      elim (get_intersection rect p q l) [ Missed ↦ ok (record { walk = s.walk; loc = l; i = s.i + 1 }) | Found ip crossing_loc ↦ line_cross full rect nx s.loc q p ip >>= line_past p ] in
+      elim (get_intersection rect p q l) [ None ↦ ok (record { walk = s.walk; loc = l; i = s.i + 1 }) | Some found ↦ line_cross full rect nx s.loc q p found.point >>= line_past p ] in
       if same_location l s.loc then line_past p s else stopped
 
   abbrev pub line_on : Next → Point64 → List Point64 → Try Next
@@ -109,13 +108,13 @@ module _ (full : ℕ → Bool) (r : Rect64) (path : List Point64) where
       w = passed full r path s.loc s.walk (pt_at path s.i)
 
   -- ---- at a point where it stops
-  abbrev turned : Next → Location → Point64 → Point64 → Search → Try Next
-  turned nx prev q p Missed = ok (record { walk = nx.walk; loc = nx.loc; i = nx.i + 1 })
-  turned nx prev q p (Found ip l) = line_cross full r nx prev q p ip
+  abbrev turned : Next → Location → Point64 → Point64 → Option SidePoint → Try Next
+  turned nx prev q p None = ok (record { walk = nx.walk; loc = nx.loc; i = nx.i + 1 })
+  turned nx prev q p (Some found) = line_cross full r nx prev q p found.point
 
-  abbrev pub turned_past : Next → Location → Point64 → Point64 → Search → Try Next
-  turned_past nx prev q p Missed = ok (record { walk = nx.walk; loc = nx.loc; i = nx.i + 1 })
-  turned_past nx prev q p (Found ip l) = line_cross full r nx prev q p ip >>= line_past full r p
+  abbrev pub turned_past : Next → Location → Point64 → Point64 → Option SidePoint → Try Next
+  turned_past nx prev q p None = ok (record { walk = nx.walk; loc = nx.loc; i = nx.i + 1 })
+  turned_past nx prev q p (Some found) = line_cross full r nx prev q p found.point >>= line_past full r p
 
   stopped_at : (s : Next) (l : Location) → s.i < length path
       → line_from full r path s.loc (record { walk = s.walk; loc = l; i = s.i })
@@ -126,10 +125,10 @@ module _ (full : ℕ → Bool) (r : Rect64) (path : List Point64) where
       nx : Next
       nx = record { walk = s.walk; loc = l; i = s.i }
 
-      go : (z : Search) → ◌≡◌ {A = Try Next} (elim z [ Missed ↦ ok (record { walk = nx.walk; loc = nx.loc; i = nx.i + 1 }) | Found ip cl ↦ line_cross full r nx s.loc (pt_at path (s.i - 1)) (pt_at path s.i) ip ])
+      go : (z : Option SidePoint) → ◌≡◌ {A = Try Next} (elim z [ None ↦ ok (record { walk = nx.walk; loc = nx.loc; i = nx.i + 1 }) | Some found ↦ line_cross full r nx s.loc (pt_at path (s.i - 1)) (pt_at path s.i) found.point ])
           (turned nx s.loc (pt_at path (s.i - 1)) (pt_at path s.i) z)
-      go Missed = refl
-      go (Found ip cl) = refl
+      go None = refl
+      go (Some found) = refl
 
   pub at_stopped : (s : Next) (q p : Point64) (l : Location) → next_location full r s.loc p ≡ l → same_location l s.loc ≡ false
       → line_at full r s q p ≡ turned_past (record { walk = s.walk; loc = l; i = s.i }) s.loc q p (get_intersection r p q l)
@@ -139,11 +138,11 @@ module _ (full : ℕ → Bool) (r : Rect64) (path : List Point64) where
       ∙ go (next_location full r s.loc p) (get_intersection r p q (next_location full r s.loc p))
       ∙ ap (λ (z : Location). turned_past (record { walk = s.walk; loc = z; i = s.i }) s.loc q p (get_intersection r p q z)) e
     where
-      go : (x : Location) (z : Search)
-          → ◌≡◌ {A = Try Next} (elim z [ Missed ↦ ok (record { walk = s.walk; loc = x; i = s.i + 1 }) | Found ip cl ↦ line_cross full r (record { walk = s.walk; loc = x; i = s.i }) s.loc q p ip >>= line_past full r p ])
+      go : (x : Location) (z : Option SidePoint)
+          → ◌≡◌ {A = Try Next} (elim z [ None ↦ ok (record { walk = s.walk; loc = x; i = s.i + 1 }) | Some found ↦ line_cross full r (record { walk = s.walk; loc = x; i = s.i }) s.loc q p found.point >>= line_past full r p ])
           (turned_past (record { walk = s.walk; loc = x; i = s.i }) s.loc q p z)
-      go x Missed = refl
-      go x (Found ip cl) = refl
+      go x None = refl
+      go x (Some found) = refl
 
   pub at_gone : (s : Next) (q p : Point64) → step r s.loc p ≡ skip → line_at full r s q p ≡ line_past full r p s
   unfolding line_at
@@ -185,11 +184,11 @@ module _ (full : ℕ → Bool) (r : Rect64) (path : List Point64) where
         nx : Next
         nx = record { walk = s.walk; loc = l; i = s.i }
 
-        go : (z : Search) → (turned nx s.loc q p z >>= line_passes full r path n) ≡ (turned_past nx s.loc q p z >>= λ t. line_on full r t p ps)
-        go Missed = behind s.i rs n (omega arith) (ok (record { walk = nx.walk; loc = nx.loc; i = nx.i + 1 })) (held refl)
-        go (Found ip cl) =
-            bind_same (StaysAt nx) (line_cross full r nx s.loc q p ip) _ _ (cross_stays nx s.loc q p ip) (λ u g. once_more n s.i l h rs (omega arith) (stop_in r p t) u g)
-            ∙ sym (assoc (line_cross full r nx s.loc q p ip) (line_past full r p) (λ u. line_on full r u p ps))
+        go : (z : Option SidePoint) → (turned nx s.loc q p z >>= line_passes full r path n) ≡ (turned_past nx s.loc q p z >>= λ t. line_on full r t p ps)
+        go None = behind s.i rs n (omega arith) (ok (record { walk = nx.walk; loc = nx.loc; i = nx.i + 1 })) (held refl)
+        go (Some found) =
+            bind_same (StaysAt nx) (line_cross full r nx s.loc q p found.point) _ _ (cross_stays nx s.loc q p found.point) (λ u g. once_more n s.i l h rs (omega arith) (stop_in r p t) u g)
+            ∙ sym (assoc (line_cross full r nx s.loc q p found.point) (line_past full r p) (λ u. line_on full r u p ps))
 
   folds : (ps : List Point64) → Folds ps
   unfolding walk_over

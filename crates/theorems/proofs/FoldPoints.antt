@@ -1,5 +1,5 @@
 -- The walk as a fold over the points, its words, and one point of `get_next_location`.
-use Rattle.std.specs.Prelude.{if◌then◌else◌}
+use Rattle.std.specs.Prelude.{if◌then◌else◌, None, Some}
 use mathlib.Core.Path.{◌≡◌, refl, ◌∙◌, ap, subst}
 use mathlib.Core.Bool.{Bool, true, false, cond}
 use mathlib.Core.List.{List}
@@ -12,7 +12,6 @@ use Rattle.plane.specs.declared.point.Point64.{Point64}
 use Rattle.plane.specs.declared.rect.Rect64.{Rect64}
 use Rattle.plane.specs.declared.location.Location.{Location}
 use Rattle.plane.specs.declared.location.Location.TheVariants.{Left, Top, Right, Bottom, Inside}
-use Rattle.plane.specs.declared.crossing.Search.TheVariants.{Missed, Found}
 use Rattle.plane.specs.Basics.{Try, ok, ◌>>=◌}
 use Rattle.plane.specs.Locations.{same_location, is_inside}
 use Rattle.plane.specs.Rectangle.{beyond, beyond_or_on}
@@ -51,7 +50,7 @@ module _ (full : ℕ → Bool) (rect : Rect64) where
   at_point s q p =
       let l = next_location s.loc p in
       let c : Pass = record { walk = s.walk; i = s.i; prev = s.loc; loc = l; crossing_prev = s.crossing_loc; first_cross = s.first_cross; prev_pt = q; pt = p } in
-      let stopped : Try State = elim (get_intersection rect p q l) [ Missed ↦ remain_outside full rect c | Found ip crossing_loc ↦ cross_boundary full rect c ip crossing_loc >>= go_past p ] in
+      let stopped : Try State = elim (get_intersection rect p q l) [ None ↦ remain_outside full rect c | Some found ↦ cross_boundary full rect c found.point found.side >>= go_past p ] in
       if same_location l s.loc then go_past p s else stopped
 
   abbrev pub walk_on : State → Point64 → List Point64 → Try State

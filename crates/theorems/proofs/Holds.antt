@@ -1,18 +1,19 @@
 -- What holds of an answer unless it is a refusal, and of all points of a list.
-use mathlib.Core.Path.{◌≡◌, refl, subst}
+use mathlib.Core.Path.{◌≡◌, refl, ap, subst}
 use mathlib.Core.Bool.{Bool, true, false, cond}
 use mathlib.Core.List.{List, [], ◌∷◌, ◌++◌}
 use Prim.Native.Nat.{ℕ, zero, suc, ◌<◌}
 use native.Mathlib.Nat.{not-suc-le-zero, le_of_suc-le-suc}
 use lib.ListN.{length, get_or, drop}
+use Rattle.std.specs.Prelude.{Option, None, Some}
+use Rattle.std.proofs.lemmas.Option.{same_Some, none-some}
+use Rattle.plane.specs.declared.crossing.SidePoint.{SidePoint}
 use Rattle.plane.specs.declared.point.Point64.{Point64}
 use Rattle.plane.specs.declared.location.Location.{Location}
-use Rattle.plane.specs.declared.crossing.Search.{Search}
-use Rattle.plane.specs.declared.crossing.Search.TheVariants.{Missed, Found}
 use Rattle.plane.specs.declared.rect.Rect64.{Rect64}
 use Rattle.plane.specs.Basics.{Try, refuse, ok, ◌>>=◌}
 use native.Mathlib.Omega.{arith}
-use Rattle.plane.specs.Intersection.{◌or_else◌, get_intersection, found_or}
+use Rattle.plane.specs.Intersection.{found_at, ◌or_else◌, get_intersection, found_or}
 use Rattle.reference.specs.Walk.{second_search}
 
 pub data Holds {A : Type 0} (Q : A → Type 0) : Try A → Type 0 where
@@ -27,10 +28,10 @@ pub either : {A : Type 0} (Q : A → Type 0) (b : Bool) (x y : Try A) → (b ≡
 either Q true x y h k = h refl
 either Q false x y h k = k refl
 
-pub by_search : {A : Type 0} (Q : A → Type 0) (m : Search) (x : Try A) (f : Point64 → Location → Try A) → (m ≡ Missed → Holds Q x) → ((q : Point64) (t : Location) → m ≡ Found q t → Holds Q (f q t))
-    → Holds Q (elim m [ Missed ↦ x | Found q t ↦ f q t ])
-by_search Q Missed x f h k = h refl
-by_search Q (Found q t) x f h k = k q t refl
+pub by_search : {A : Type 0} (Q : A → Type 0) (m : Option SidePoint) (x : Try A) (f : Point64 → Location → Try A) → (m ≡ None → Holds Q x) → ((q : Point64) (t : Location) → m ≡ found_at q t → Holds Q (f q t))
+    → Holds Q (elim m [ None ↦ x | Some found ↦ f found.point found.side ])
+by_search Q None x f h k = h refl
+by_search Q (Some found) x f h k = k found.point found.side refl
 
 pub anything : {A : Type 0} (m : Try A) → Holds (λ (a : A). Unit {0}) m
 anything (refuse n) = refused
@@ -53,23 +54,27 @@ holds_ok {A} {Q} m x (held {a} h) e = let q : a ≡ x = cc in subst Q q h
 holds_ok m x refused e = let z : ◌≡◌ {A = ℕ} 0 1 = cc in absurd (omega arith)
 
 -- ---- a search that found something
-pub or_cases : {W : Type 0} (x y : Search) (q : Point64) (t : Location) → (x ≡ Found q t → W) → (y ≡ Found q t → W) → (x or_else y) ≡ Found q t → W
-or_cases (Found p s) y q t h k e = h e
-or_cases Missed y q t h k e = k e
+-- two finds are one exactly if their points and sides are
+pub same_find : {p q : Point64} {s t : Location} → found_at p s ≡ found_at q t → (p ≡ q) × (s ≡ t)
+same_find e = let f = same_Some _ _ e in (ap (λ (x : SidePoint). x.point) f, ap (λ (x : SidePoint). x.side) f)
 
-pub guarded : {W : Type 0} (g : Bool) (x : Search) (q : Point64) (t : Location) → (x ≡ Found q t → W) → (cond g x Missed) ≡ Found q t → W
+pub or_cases : {W : Type 0} (x y : Option SidePoint) (q : Point64) (t : Location) → (x ≡ found_at q t → W) → (y ≡ found_at q t → W) → (x or_else y) ≡ found_at q t → W
+or_cases (Some found) y q t h k e = h e
+or_cases None y q t h k e = k e
+
+pub guarded : {W : Type 0} (g : Bool) (x : Option SidePoint) (q : Point64) (t : Location) → (x ≡ found_at q t → W) → (cond g x None) ≡ found_at q t → W
 guarded true x q t h e = h e
-guarded false x q t h e = let z : ◌≡◌ {A = ℕ} 0 1 = cc in absurd (omega arith)
+guarded false x q t h e = absurd (none-some _ e)
 
 -- what holds of ip and prev, and of all that the search may find, holds of the second search's answer
-pub by_second_search : (P : Point64 → Location → Type 0) (r : Rect64) (q p : Point64) (prev : Location) (ip : Point64) → P ip prev → ((ip2 : Point64) (l : Location) → get_intersection r q p prev ≡ Found ip2 l → P ip2 l)
+pub by_second_search : (P : Point64 → Location → Type 0) (r : Rect64) (q p : Point64) (prev : Location) (ip : Point64) → P ip prev → ((ip2 : Point64) (l : Location) → get_intersection r q p prev ≡ found_at ip2 l → P ip2 l)
     → P (second_search r q p prev ip).point (second_search r q p prev ip).side
 unfolding second_search
 by_second_search P r q p prev ip h f = go (get_intersection r q p prev) refl
   where
-    go : (m : Search) → get_intersection r q p prev ≡ m → P (found_or m ip prev).point (found_or m ip prev).side
-    go Missed e = h
-    go (Found ip2 l) e = f ip2 l e
+    go : (m : Option SidePoint) → get_intersection r q p prev ≡ m → P (found_or m ip prev).point (found_or m ip prev).side
+    go None e = h
+    go (Some found) e = f found.point found.side e
 
 -- ---- all points of a list
 abbrev pub All : (Point64 → Type 0) → List Point64 → Type 0

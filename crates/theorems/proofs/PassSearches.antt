@@ -5,15 +5,15 @@ use mathlib.Core.Logic.{◌⊎◌, inl, inr}
 use lib.IntN.{ℤ, pos}
 use lib.Signed.{◌≤ℤ◌, ◌<ℤ◌}
 use Rattle.integers.specs.Order.{zint, add_pn, eq→}
+use Rattle.std.specs.Prelude.{Option, None, Some, is_some}
+use Rattle.plane.specs.declared.crossing.SidePoint.{SidePoint}
 use Rattle.plane.specs.declared.point.Point64.{Point64}
 use Rattle.plane.specs.Limit.{Limited, LimitedRect}
 use Rattle.plane.specs.declared.rect.Rect64.{Rect64}
 use Rattle.plane.specs.declared.location.Location.{Location}
 use Rattle.plane.specs.declared.location.Location.TheVariants.{Inside}
-use Rattle.plane.specs.declared.crossing.Search.{Search}
-use Rattle.plane.specs.declared.crossing.Search.TheVariants.{Missed, Found}
 use Rattle.plane.specs.Points.{origin, same_point}
-use Rattle.plane.specs.Intersection.{get_intersection}
+use Rattle.plane.specs.Intersection.{found_at, get_intersection}
 use Rattle.theorems.proofs.GeoPlane.{same_pt, Side, on_left, on_top, on_right, on_bottom, loc, edge, Found as Finding, nothing, found, search, depth, opposite, second, last, Proper}
 use Rattle.theorems.proofs.GeoCut.{Depths}
 use Rattle.theorems.proofs.GeoSides.{Meets, around}
@@ -137,27 +137,23 @@ module _ (f : Calc) (r : Rect64) (k : Proper r) (p q : Point64) (t u : Side) (a 
           (subst (λ (x : Side). SameAt f r p q x (last t)) (sym a.is_last) (same_last f r k p q t (subst (λ (x : Side). Along r t x p q) a.is_last a)))
 
 -- ---- what the searches of a pass find
-abbrev loc_of : Search → Location
-loc_of Missed = Inside
-loc_of (Found q l) = l
+abbrev loc_of : Option SidePoint → Location
+loc_of None = Inside
+loc_of (Some f) = f.side
 
-abbrev pt_of : Search → Point64
-pt_of Missed = origin
-pt_of (Found q l) = q
-
-abbrev hit? : Search → Bool
-hit? Missed = false
-hit? (Found q l) = true
+abbrev pt_of : Option SidePoint → Point64
+pt_of None = origin
+pt_of (Some f) = f.point
 
 module _ (r : Rect64) (lr : LimitedRect r) (k : Proper r) (p q : Point64) (lp : Limited p) (lq : Limited q) where
-  forth : (l : Location) (s : Search) (w : Finding) → get_intersection r p q l ≡ s → search r p q l ≡ w → s ≡ told r lr k p q lp lq w
+  forth : (l : Location) (s : Option SidePoint) (w : Finding) → get_intersection r p q l ≡ s → search r p q l ≡ w → s ≡ told r lr k p q lp lq w
   forth l s w e g = sym e ∙ search_told r lr k p q lp lq l ∙ ap (told r lr k p q lp lq) g
 
-  back : (l : Location) (s : Search) (w : Finding) → get_intersection r q p l ≡ s → search r q p l ≡ w → s ≡ told r lr k q p lq lp w
+  back : (l : Location) (s : Option SidePoint) (w : Finding) → get_intersection r q p l ≡ s → search r q p l ≡ w → s ≡ told r lr k q p lq lp w
   back l s w e g = sym e ∙ search_told r lr k q p lq lp l ∙ ap (told r lr k q p lq lp) g
 
   -- from inside: p is strictly beyond t
-  pub leave_in : (t : Side) → depth r t p <ℤ pos 0 → (ip : Point64) (c : Location) → get_intersection r p q (loc t) ≡ Found ip c → In r c p
+  pub leave_in : (t : Side) → depth r t p <ℤ pos 0 → (ip : Point64) (c : Location) → get_intersection r p q (loc t) ≡ found_at ip c → In r c p
   leave_in t n ip c e = go (finds_or_none r k p q t)
     where
       b : Beyond r t p
@@ -171,24 +167,24 @@ module _ (r : Rect64) (lr : LimitedRect r) (k : Proper r) (p q : Point64) (lp : 
           clash {z} e h = omega (zint, eq→ e)
 
       go : Finds r p q (loc t) ⊎ FindsNone r p q t → In r c p
-      go (inl g) = subst (λ (l : Location). In r l p) (sym (ap loc_of (forth (loc t) (Found ip c) _ e g.at))) (in_side r g.side p (only (stayed r k p q t b g)))
-      go (inr n) = absurd (never refl (ap hit? (forth (loc t) (Found ip c) _ e n.at)))
+      go (inl g) = subst (λ (l : Location). In r l p) (sym (ap loc_of (forth (loc t) (found_at ip c) _ e g.at))) (in_side r g.side p (only (stayed r k p q t b g)))
+      go (inr n) = absurd (never refl (ap is_some (forth (loc t) (found_at ip c) _ e n.at)))
 
   -- from side s right through to side t
-  pub through_in : (s t : Side) → pos 0 <ℤ depth r s p → Beyond r t p → (ip ip2 : Point64) (c d : Location) → get_intersection r p q (loc t) ≡ Found ip c → get_intersection r q p (loc s) ≡ Found ip2 d
+  pub through_in : (s t : Side) → pos 0 <ℤ depth r s p → Beyond r t p → (ip ip2 : Point64) (c d : Location) → get_intersection r p q (loc t) ≡ found_at ip c → get_intersection r q p (loc s) ≡ found_at ip2 d
       → same_point ip ip2 ≡ false → In r c p
   through_in s t i b ip ip2 c d e e2 ne = go (finds_or_none r k p q t) (finds_or_none r k q p s)
     where
       go : Finds r p q (loc t) ⊎ FindsNone r p q t → Finds r q p (loc s) ⊎ FindsNone r q p s → In r c p
-      go (inr n) h = absurd (never refl (ap hit? (forth (loc t) (Found ip c) _ e n.at)))
-      go (inl g) (inr n) = absurd (never refl (ap hit? (back (loc s) (Found ip2 d) _ e2 n.at)))
+      go (inr n) h = absurd (never refl (ap is_some (forth (loc t) (found_at ip c) _ e n.at)))
+      go (inl g) (inr n) = absurd (never refl (ap is_some (back (loc s) (found_at ip2 d) _ e2 n.at)))
       go (inl g) (inl h) = subst (λ (l : Location). In r l p) (sym (ap loc_of ge)) (in_side r g.side p (only (stayed r k p q t b g)))
         where
-          ge : Found ip c ≡ told r lr k p q lp lq (found g.side (edge r g.side p q))
-          ge = forth (loc t) (Found ip c) _ e g.at
+          ge : found_at ip c ≡ told r lr k p q lp lq (found g.side (edge r g.side p q))
+          ge = forth (loc t) (found_at ip c) _ e g.at
 
-          he : Found ip2 d ≡ told r lr k q p lq lp (found h.side (edge r h.side q p))
-          he = back (loc s) (Found ip2 d) _ e2 h.at
+          he : found_at ip2 d ≡ told r lr k q p lq lp (found h.side (edge r h.side q p))
+          he = back (loc s) (found_at ip2 d) _ e2 h.at
 
           only : Beyond r g.side p ⊎ Along r t g.side p q → Beyond r g.side p
           only (inl b) = b

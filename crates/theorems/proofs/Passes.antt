@@ -19,12 +19,11 @@ use Rattle.plane.specs.declared.rect.Rect64.{Rect64}
 use Rattle.plane.specs.declared.location.Spot.{Spot}
 use Rattle.plane.specs.declared.location.Location.{Location}
 use Rattle.plane.specs.declared.location.Location.TheVariants.{Inside}
-use Rattle.plane.specs.declared.crossing.Search.TheVariants.{Found}
 use Rattle.plane.specs.Basics.{ok, ◌>>=◌}
 use Rattle.plane.specs.Points.{origin, pt_at, same_point, points_of}
 use Rattle.plane.specs.Locations.{same_location, is_inside}
 use Rattle.plane.specs.Rectangle.{mid_point, get_location}
-use Rattle.plane.specs.Intersection.{get_intersection}
+use Rattle.plane.specs.Intersection.{found_at, get_intersection}
 use Rattle.plane.specs.Signs.{is_clockwise_dir}
 use Rattle.reference.specs.Walk.{Walk, nothing_yet, add, push_start_loc, add_corner_prev_curr, add_corners, push_start_locs, Next, get_next_location, State, Pass, remain_outside, enter, pass_to, pass_through, leave, cross_boundary, pt_before, pass_from, passes, second_search}
 use Rattle.reference.specs.Lines.{line_through, line_cross, line_from, line_passes}
@@ -108,12 +107,12 @@ module _ (r : Rect64) (p : Point64) where
 
 module _ (r : Rect64) (lr : LimitedRect r) (k : Proper r) (p q : Point64) (lp : Limited p) (lq : Limited q) where
   through_any : (l l' : Location) → Stop r p l l' → is_inside l' ≡ false → not (is_inside l) ≡ true → (ip ip2 : Point64) (c d : Location)
-      → get_intersection r p q l' ≡ Found ip c → get_intersection r q p l ≡ Found ip2 d → same_point ip ip2 ≡ false → In r c p
+      → get_intersection r p q l' ≡ found_at ip c → get_intersection r q p l ≡ found_at ip2 d → same_point ip ip2 ≡ false → In r c p
   through_any l l' (enters s i inner) g h ip ip2 c d e e2 ne = absurd (never refl g)
   through_any l l' (crosses s t i b) g h ip ip2 c d e e2 ne = through_in r lr k p q lp lq s t i b ip ip2 c d e e2 ne
   through_any l l' (leaves t n) g h ip ip2 c d e e2 ne = absurd (never h refl)
 
-  leave_any : (l l' : Location) → Stop r p l l' → is_inside l' ≡ false → not (is_inside l) ≡ false → (ip : Point64) (c : Location) → get_intersection r p q l' ≡ Found ip c → In r c p
+  leave_any : (l l' : Location) → Stop r p l l' → is_inside l' ≡ false → not (is_inside l) ≡ false → (ip : Point64) (c : Location) → get_intersection r p q l' ≡ found_at ip c → In r c p
   leave_any l l' (enters s i inner) g h ip c e = absurd (never refl g)
   leave_any l l' (crosses s t i b) g h ip c e = absurd (never (ap not (sides_out s)) h)
   leave_any l l' (leaves t n) g h ip c e = leave_in r lr k p q lp lq t n ip c e
@@ -158,7 +157,7 @@ module _ (full : ℕ → Bool) (r : Rect64) (lr : LimitedRect r) (k : Proper r) 
       (λ _. bind Any (Stays c) (add_corner_prev_curr full r u l (get_location r c.pt).loc) _ (anything _) (λ t _. held (refl, get_location_in r c.pt)))
       (λ ne. bind Any (Stays c) (add full u ip false) _ (anything _) (λ t _. held (refl, h ne))))))
 
-  pub cross_stays : (c : Pass) (ip : Point64) (l : Location) → Limited c.pt → Limited c.prev_pt → Stop r c.pt c.prev c.loc → get_intersection r c.pt c.prev_pt c.loc ≡ Found ip l
+  pub cross_stays : (c : Pass) (ip : Point64) (l : Location) → Limited c.pt → Limited c.prev_pt → Stop r c.pt c.prev c.loc → get_intersection r c.pt c.prev_pt c.loc ≡ found_at ip l
       → Holds (Stays c) (cross_boundary full r c ip l)
   unfolding cross_boundary pass_through leave
   cross_stays c ip l lp lq st e =

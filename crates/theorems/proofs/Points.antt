@@ -1,6 +1,6 @@
 -- Every point that a walk puts down is an input point in or on the rectangle, a corner, or what a search for a crossing finds. Over any property P
 -- of points, and any property K of walks that putting down such points keeps.
-use Rattle.std.specs.Prelude.{if◌then◌else◌}
+use Rattle.std.specs.Prelude.{if◌then◌else◌, None}
 use mathlib.Core.Path.{◌≡◌, refl, sym, subst}
 use mathlib.Core.Bool.{Bool, true, false, cond, not, ◌&&◌, ◌||◌}
 use mathlib.Core.List.{List, [], ◌∷◌}
@@ -14,12 +14,11 @@ use Rattle.plane.specs.declared.point.Point64.{Point64}
 use Rattle.plane.specs.declared.rect.Rect64.{Rect64}
 use Rattle.plane.specs.declared.location.Location.{Location}
 use Rattle.plane.specs.declared.location.Location.TheVariants.{Left, Top, Right, Bottom, Inside}
-use Rattle.plane.specs.declared.crossing.Search.TheVariants.{Missed, Found}
 use Rattle.plane.specs.Basics.{is_nil, ok, ◌>>=◌}
 use Rattle.plane.specs.Locations.{side, same_location, get_adjacent_location, heading_clockwise, is_inside}
 use Rattle.plane.specs.Points.{pt_at, origin, same_point}
 use Rattle.plane.specs.Rectangle.{get_location, mid_point, contains_point, get_bounds_path, as_path, corner, beyond}
-use Rattle.plane.specs.Intersection.{get_intersection}
+use Rattle.plane.specs.Intersection.{found_at, get_intersection}
 use Rattle.plane.specs.Signs.{is_clockwise_dir}
 use Rattle.plane.specs.Polygon.{path1_contains_path2}
 use Rattle.reference.specs.Walk.{Walk, nothing_yet, add, add_all, push_start_loc, Next, add_corner_prev_curr, add_corner_loc, add_corners, push_start_locs, next_inside, next_outside, get_next_location, State, Pass, Walked, remain_outside, enter, pass_to, pass_through, leave, cross_boundary, pt_before, pass_from, passes, last_off, add_round, surround, retrace, close_outline, after_while, walk_from, walk_closed}
@@ -141,7 +140,7 @@ module _ (full : ℕ → Bool) (P : Point64 → Type 0) (K : Walk → Type 0) (k
 
     -- what a search finds, in the pass's segment, either way round
     abbrev pub Finds : Point64 → Point64 → Type 0
-    Finds p p2 = (s : Location) (q : Point64) (t : Location) → get_intersection rect p p2 s ≡ Found q t → P q
+    Finds p p2 = (s : Location) (q : Point64) (t : Location) → get_intersection rect p p2 s ≡ found_at q t → P q
 
     through_kept : (c : Pass) (ip : Point64) (loc : Location) → K c.walk → P ip → Finds c.prev_pt c.pt → Holds KeptState (pass_through full rect c ip loc)
     unfolding pass_through
@@ -225,7 +224,7 @@ module _ (full : ℕ → Bool) (P : Point64 → Type 0) (K : Walk → Type 0) (k
 
       -- where the walk starts on an edge: either a point off the edges is found, or all points are on them
       module _ (on_edge : (p : Point64) → (get_location rect p).off ≡ false → WithinSides rect p) where
-        last_off_missed : (k : ℕ) → last_off rect path k ≡ Missed → (i : ℕ) → i < k → (get_location rect (pt_at path i)).off ≡ false
+        last_off_missed : (k : ℕ) → last_off rect path k ≡ None → (i : ℕ) → i < k → (get_location rect (pt_at path i)).off ≡ false
         unfolding last_off
         last_off_missed zero e i l = absurd (not-suc-le-zero l)
         last_off_missed (suc k) e i l = go (get_location rect (pt_at path k)).off refl e (λ z. last_off_missed k z i)
@@ -234,8 +233,8 @@ module _ (full : ℕ → Bool) (P : Point64 → Type 0) (K : Walk → Type 0) (k
             last true t q f = f (ltb→lt i k (T_of t))
             last false t q f = let h : k ≤ i = nltb→le i k (T_not_of t) in let m : i ≡ k = omega arith in subst (λ (n : ℕ). (get_location rect (pt_at path n)).off ≡ false) (sym m) q
 
-            go : (b : Bool) → (get_location rect (pt_at path k)).off ≡ b → cond b (Found (pt_at path k) (get_location rect (pt_at path k)).loc) (last_off rect path k) ≡ Missed
-                → (last_off rect path k ≡ Missed → i < k → (get_location rect (pt_at path i)).off ≡ false) → (get_location rect (pt_at path i)).off ≡ false
+            go : (b : Bool) → (get_location rect (pt_at path k)).off ≡ b → cond b (found_at (pt_at path k) (get_location rect (pt_at path k)).loc) (last_off rect path k) ≡ None
+                → (last_off rect path k ≡ None → i < k → (get_location rect (pt_at path i)).off ≡ false) → (get_location rect (pt_at path i)).off ≡ false
             go true q m f = let z : ◌≡◌ {A = ℕ} 0 1 = cc in absurd (omega arith)
             go false q m f = last (ltb i k) refl q (f m)
 
@@ -248,7 +247,7 @@ module _ (full : ℕ → Bool) (P : Point64 → Type 0) (K : Walk → Type 0) (k
             (λ m. bind K KeptWalked (add_all full nothing_yet path) _ (add_all_kept nothing_yet path keep.start (all_of P path origin (each e m))) (λ w k. held k))
             (λ p prev f. walk_from_kept _)))
           where
-            off : (get_location rect (pt_at path (length path - 1))).off ≡ false → last_off rect path (length path - 1) ≡ Missed → (i : ℕ) → i < length path
+            off : (get_location rect (pt_at path (length path - 1))).off ≡ false → last_off rect path (length path - 1) ≡ None → (i : ℕ) → i < length path
                 → (t : Bool) → ltb i (length path - 1) ≡ t → (get_location rect (pt_at path i)).off ≡ false
             off e m i l true t = last_off_missed (length path - 1) m i (ltb→lt i (length path - 1) (T_of t))
             off e m i l false t =
@@ -256,7 +255,7 @@ module _ (full : ℕ → Bool) (P : Point64 → Type 0) (K : Walk → Type 0) (k
                 let n : i ≡ length path - 1 = omega arith in
                 subst (λ (n : ℕ). (get_location rect (pt_at path n)).off ≡ false) (sym n) e
 
-            each : (get_location rect (pt_at path (length path - 1))).off ≡ false → last_off rect path (length path - 1) ≡ Missed → (i : ℕ) → i < length path → P (get_or path i origin)
+            each : (get_location rect (pt_at path (length path - 1))).off ≡ false → last_off rect path (length path - 1) ≡ None → (i : ℕ) → i < length path → P (get_or path i origin)
             each e m i l = all_at (λ p. WithinSides rect p → P p) path i origin inputs l (on_edge (pt_at path i) (off e m i l (ltb i (length path - 1)) refl))
 
 -- ---- P of all points

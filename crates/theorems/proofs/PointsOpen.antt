@@ -1,5 +1,5 @@
 -- The same for the line clipper: its walk, and its returned points.
-use Rattle.std.specs.Prelude.{if◌then◌else◌}
+use Rattle.std.specs.Prelude.{if◌then◌else◌, None}
 use mathlib.Core.Path.{◌≡◌, refl}
 use mathlib.Core.Bool.{Bool, true, false, cond, not}
 use mathlib.Core.List.{List, [], ◌∷◌}
@@ -12,11 +12,10 @@ use Rattle.plane.specs.declared.point.Point64.{Point64}
 use Rattle.plane.specs.declared.rect.Rect64.{Rect64}
 use Rattle.plane.specs.declared.location.Location.{Location}
 use Rattle.plane.specs.declared.location.Location.TheVariants.{Left, Top, Right, Bottom, Inside}
-use Rattle.plane.specs.declared.crossing.Search.TheVariants.{Missed, Found}
 use Rattle.plane.specs.Basics.{lead, ok, ◌>>=◌}
 use Rattle.plane.specs.Points.{pt_at, origin}
 use Rattle.plane.specs.Rectangle.{get_location, get_bounds_path, is_empty, intersects, beyond, beyond_or_on}
-use Rattle.plane.specs.Intersection.{get_intersection}
+use Rattle.plane.specs.Intersection.{found_at, get_intersection}
 use Rattle.reference.specs.Walk.{Walk, nothing_yet, add, Next, next_inside, next_outside, get_next_location, second_search}
 use Rattle.plane.specs.Locations.{is_inside}
 use Rattle.reference.specs.Lines.{line_through, line_cross, line_from, line_passes, first_off_edge, line_walk_from, walk_open, pieces, longer_than_one, execute_lines}
@@ -57,7 +56,7 @@ module _ (full : ℕ → Bool) (P : Point64 → Type 0) (K : Walk → Type 0) (k
   next_later w Inside i l h = inside_later w i (drop i path) l h (all_drop (λ p. WithinSides rect p → P p) i path inputs)
 
   abbrev pub Finds' : Point64 → Point64 → Type 0
-  Finds' p p2 = (s : Location) (q : Point64) (t : Location) → get_intersection rect p p2 s ≡ Found q t → P q
+  Finds' p p2 = (s : Location) (q : Point64) (t : Location) → get_intersection rect p p2 s ≡ found_at q t → P q
 
   through_kept : (n : Next) (prev : Location) (prev_pt pt ip : Point64) → LineKept n → P ip → Finds' prev_pt pt → Holds LineKept (line_through full rect n prev prev_pt pt ip)
   unfolding line_through
@@ -111,13 +110,13 @@ module _ (full : ℕ → Bool) (P : Point64 → Type 0) (K : Walk → Type 0) (k
     first_kept : 1 < length path → WithinSides rect (pt_at path 0) → P (pt_at path 0)
     first_kept l h = all_at (λ p. WithinSides rect p → P p) path 0 origin inputs (omega arith) h
 
-    off_missed : (ps : List Point64) → first_off_edge rect ps ≡ Missed → All (λ p. (get_location rect p).off ≡ false) ps
+    off_missed : (ps : List Point64) → first_off_edge rect ps ≡ None → All (λ p. (get_location rect p).off ≡ false) ps
     unfolding first_off_edge
     off_missed [] e = tt
     off_missed (p ∷ ps) e = go (get_location rect p).off refl e (λ z. off_missed ps z)
       where
-        go : (b : Bool) → (get_location rect p).off ≡ b → cond b (Found p (get_location rect p).loc) (first_off_edge rect ps) ≡ Missed
-            → (first_off_edge rect ps ≡ Missed → All (λ p. (get_location rect p).off ≡ false) ps) → ((get_location rect p).off ≡ false) × All (λ p. (get_location rect p).off ≡ false) ps
+        go : (b : Bool) → (get_location rect p).off ≡ b → cond b (found_at p (get_location rect p).loc) (first_off_edge rect ps) ≡ None
+            → (first_off_edge rect ps ≡ None → All (λ p. (get_location rect p).off ≡ false) ps) → ((get_location rect p).off ≡ false) × All (λ p. (get_location rect p).off ≡ false) ps
         go true q m f = let z : ◌≡◌ {A = ℕ} 0 1 = cc in absurd (omega arith)
         go false q m f = (q, f m)
 

@@ -1,18 +1,17 @@
 -- Every walk, of closed paths and of open ones, is refused for want of room or not at all: no step has another refusal. So with room for all points
 -- no walk is refused, and the walked outline is what that walk puts down. Assumes nothing.
-use Rattle.std.specs.Prelude.{if◌then◌else◌}
+use Rattle.std.specs.Prelude.{if◌then◌else◌, Option, None, Some}
 use mathlib.Core.Path.{◌≡◌, refl}
 use mathlib.Core.Bool.{Bool, true, false, cond, not, ◌&&◌, ◌||◌}
 use mathlib.Core.List.{List, [], ◌∷◌}
 use Prim.Native.Nat.{ℕ, zero, suc, ◌+◌, ◌-◌}
 use lib.ListN.{length, drop}
 use lib.Dec.{leb, ltb}
+use Rattle.plane.specs.declared.crossing.SidePoint.{SidePoint}
 use Rattle.plane.specs.declared.point.Point64.{Point64}
 use Rattle.plane.specs.declared.rect.Rect64.{Rect64}
 use Rattle.plane.specs.declared.location.Location.{Location}
 use Rattle.plane.specs.declared.location.Location.TheVariants.{Left, Top, Right, Bottom, Inside}
-use Rattle.plane.specs.declared.crossing.Search.{Search}
-use Rattle.plane.specs.declared.crossing.Search.TheVariants.{Missed, Found}
 use Rattle.plane.specs.Basics.{is_nil, Try, refuse, ok, ◌>>=◌}
 use Rattle.plane.specs.Points.{pt_at, same_point}
 use Rattle.plane.specs.Locations.{same_location, get_adjacent_location, is_inside}
@@ -36,9 +35,9 @@ module _ {full : ℕ → Bool} {A : Type 0} where
   choice true h k = h
   choice false h k = k
 
-  found : (s : Search) {x : Try A} {f : Point64 → Location → Try A} → RoomAlone full x → ((p : Point64) (l : Location) → RoomAlone full (f p l)) → RoomAlone full {A = A} (elim s [ Missed ↦ x | Found p l ↦ f p l ])
-  found Missed h k = h
-  found (Found p l) h k = k p l
+  found : (s : Option SidePoint) {x : Try A} {f : Point64 → Location → Try A} → RoomAlone full x → ((p : Point64) (l : Location) → RoomAlone full (f p l)) → RoomAlone full {A = A} (elim s [ None ↦ x | Some found ↦ f found.point found.side ])
+  found None h k = h
+  found (Some f) h k = k f.point f.side
 
   -- the one place where a refusal comes from
   room : (n : ℕ) (a : A) → RoomAlone full (if full n then refuse 8 else ok a)

@@ -14,11 +14,10 @@ use Rattle.plane.specs.declared.point.Point64.{Point64}
 use Rattle.plane.specs.declared.rect.Rect64.{Rect64}
 use Rattle.plane.specs.declared.location.Location.{Location}
 use Rattle.plane.specs.declared.location.Location.TheVariants.{Left, Top, Right, Bottom, Inside}
-use Rattle.plane.specs.declared.crossing.Search.TheVariants.{Found}
 use Rattle.plane.specs.Limit.{Limited, LimitedRect}
 use Rattle.plane.specs.Locations.{is_inside}
 use Rattle.plane.specs.Rectangle.{contains_point, beyond, is_empty, get_location}
-use Rattle.plane.specs.Intersection.{get_intersection}
+use Rattle.plane.specs.Intersection.{found_at, get_intersection}
 use Rattle.theorems.specs.Detour.{Leaves, AllBeyond, last_of}
 use Rattle.theorems.proofs.GeoPlane.{Side, on_left, on_top, on_right, on_bottom, loc, edge, depth, second, last, Proper}
 use Rattle.theorems.proofs.GeoCut.{apart}
@@ -195,7 +194,7 @@ module _ (r : Rect64) (lr : LimitedRect r) (k : Proper r) (s : Side) (p q : Poin
   abbrev pub way_out : Point64
   way_out = point floats r q p s (edge r s q p)
 
-  pub finds_own : Inner r p → BeyondOnly r s q → get_intersection r q p (loc s) ≡ Found way_out (loc s)
+  pub finds_own : Inner r p → BeyondOnly r s q → get_intersection r q p (loc s) ≡ found_at way_out (loc s)
   finds_own n o = search_told r lr k q p lq lp (loc s) ∙ ap (told r lr k q p lq lp) (own_first r k q p s (meets_own r s p q n o))
 
 -- a point beyond s is gone past from s

@@ -1,6 +1,6 @@
 -- 10/13 of the closed walk: what RunWalk asks of it, and its start, which looks at the last point and, where that is on an edge, backwards for a
 -- point off the edges. It comes to the run's last point at the latest.
-use Rattle.std.specs.Prelude.{if◌then◌else◌}
+use Rattle.std.specs.Prelude.{if◌then◌else◌, Option, None, Some}
 use mathlib.Core.Path.{◌≡◌, refl, sym, ◌∙◌, ap, subst}
 use mathlib.Core.Bool.{Bool, true, false, not}
 use mathlib.Core.List.{List, [], ◌∷◌, ◌++◌, append_assoc}
@@ -9,18 +9,17 @@ use native.Mathlib.Omega.{arith}
 use lib.ListN.{length, length-append, get_or-append}
 use lib.Seq.{get_or-append-add}
 use lib.Dec.{T}
+use Rattle.plane.specs.declared.crossing.SidePoint.{SidePoint}
 use Rattle.plane.specs.declared.point.Point64.{Point64}
 use Rattle.plane.specs.declared.rect.Rect64.{Rect64}
 use Rattle.plane.specs.declared.location.Location.{Location}
 use Rattle.plane.specs.declared.location.Location.TheVariants.{Inside}
-use Rattle.plane.specs.declared.crossing.Search.{Search}
-use Rattle.plane.specs.declared.crossing.Search.TheVariants.{Missed, Found}
 use Rattle.plane.specs.Basics.{is_nil, Try, ok, ◌>>=◌}
 use Rattle.plane.specs.Limit.{Limited, LimitedRect}
 use Rattle.plane.specs.Locations.{same_location, is_inside}
 use Rattle.plane.specs.Points.{origin, pt_at}
 use Rattle.plane.specs.Rectangle.{get_location, beyond}
-use Rattle.plane.specs.Intersection.{get_intersection}
+use Rattle.plane.specs.Intersection.{found_at, get_intersection}
 use Rattle.reference.specs.Walk.{nothing_yet, add, add_all, State, Pass, Walked, leave, cross_boundary, last_off, after_while, walk_from, walk_closed}
 use Rattle.theorems.specs.Detour.{last_of}
 use Rattle.theorems.proofs.Holds.{Holds, held, bind, either, by_search, anything, holds_map, holds_both, All, all_split}
@@ -84,9 +83,9 @@ module _ (full : ℕ → Bool) (r : Rect64) (lr : LimitedRect r) (k : Proper r) 
           c : Pass
           c = pass_at full r [] s l q p
 
-          on : (z : Search) → get_intersection r p q l ≡ z → Holds Q (turned_past full r [] c z)
-          on Missed e = holds_map (λ u g. subst (λ (l : Location). In r l p) (sym g.1) (stop_in r p t)) (remain_goes_on full r c)
-          on (Found ip cl) e = bind (Stays full r lr k c) Q (cross_boundary full r c ip cl) _ (cross_stays full r lr k c ip cl lp lq t e) (λ u g. past u g.1)
+          on : (z : Option SidePoint) → get_intersection r p q l ≡ z → Holds Q (turned_past full r [] c z)
+          on None e = holds_map (λ u g. subst (λ (l : Location). In r l p) (sym g.1) (stop_in r p t)) (remain_goes_on full r c)
+          on (Some found) e = bind (Stays full r lr k c) Q (cross_boundary full r c found.point found.side) _ (cross_stays full r lr k c found.point found.side lp lq t e) (λ u g. past u g.1)
 
   module _ (u : Side) where
     abbrev Gone : State → Type 0
@@ -128,11 +127,11 @@ module _ (full : ℕ → Bool) (r : Rect64) (lr : LimitedRect r) (k : Proper r) 
 
 -- ---- the search for a point off the edges, backwards
 module _ (r : Rect64) where
-  abbrev looked : Point64 → Search → Search
-  looked z before = let s = get_location r z in if s.off then Found z s.loc else before
+  abbrev looked : Point64 → Option SidePoint → Option SidePoint
+  looked z before = let s = get_location r z in if s.off then found_at z s.loc else before
 
   -- from the points of a list before the first n, backwards, and then z
-  abbrev back_to : ℕ → List Point64 → Search → Search
+  abbrev back_to : ℕ → List Point64 → Option SidePoint → Option SidePoint
   back_to zero back z = z
   back_to (suc n) back z = looked (pt_at back n) (back_to n back z)
 
@@ -143,26 +142,26 @@ module _ (r : Rect64) where
       ap (last_off r (pre ++ back)) (let z : suc n + length pre ≡ suc (n + length pre) = omega arith in z)
       ∙ (λ i. looked ((ap (pt_at (pre ++ back)) (let z : n + length pre ≡ length pre + n = omega arith in z) ∙ get_or-append-add pre back n origin) i) (off_back pre back n i))
 
-  off_last : (pre back : List Point64) (z : Point64) → 0 < length pre → last_of origin pre ≡ z → (get_location r z).off ≡ true → last_off r (pre ++ back) (length pre) ≡ Found z (get_location r z).loc
+  off_last : (pre back : List Point64) (z : Point64) → 0 < length pre → last_of origin pre ≡ z → (get_location r z).off ≡ true → last_off r (pre ++ back) (length pre) ≡ found_at z (get_location r z).loc
   unfolding last_off
   off_last pre back z l e h =
       ap (last_off r (pre ++ back)) (let y : length pre ≡ suc (length pre - 1) = omega arith in y)
       ∙ ap (λ (x : Point64). looked x (last_off r (pre ++ back) (length pre - 1))) (get_or-append pre back origin (length pre - 1) (omega arith) ∙ last_at pre ∙ e)
-      ∙ ap (λ (b : Bool). if b then Found z (get_location r z).loc else last_off r (pre ++ back) (length pre - 1)) h
+      ∙ ap (λ (b : Bool). if b then found_at z (get_location r z).loc else last_off r (pre ++ back) (length pre - 1)) h
 
   -- behind the points of pre, the last of which is off the edges
   off_found : (pre : List Point64) (b : Point64) (bs : List Point64) (z : Point64) → 0 < length pre → last_of origin pre ≡ z → (get_location r z).off ≡ true
-      → last_off r (pre ++ b ∷ bs) (length (pre ++ b ∷ bs) - 1) ≡ back_to (length bs) (b ∷ bs) (Found z (get_location r z).loc)
+      → last_off r (pre ++ b ∷ bs) (length (pre ++ b ∷ bs) - 1) ≡ back_to (length bs) (b ∷ bs) (found_at z (get_location r z).loc)
   off_found pre b bs z l e h =
       ap (last_off r (pre ++ b ∷ bs)) (let y : length (pre ++ b ∷ bs) - 1 ≡ length bs + length pre = omega (arith, length-append pre (b ∷ bs)) in y)
       ∙ off_back pre (b ∷ bs) (length bs)
       ∙ ap (back_to (length bs) (b ∷ bs)) (off_last pre (b ∷ bs) z l e h)
 
-  back_finds : (n : ℕ) (back : List Point64) (p : Point64) (l : Location) → SameFind (back_to n back (Found p l)) (back_to n back (Found p l))
+  back_finds : (n : ℕ) (back : List Point64) (p : Point64) (l : Location) → SameFind (back_to n back (found_at p l)) (back_to n back (found_at p l))
   back_finds zero back p l = finds p l
   back_finds (suc n) back p l = go (get_location r (pt_at back n)).off (back_finds n back p l)
     where
-      go : (b : Bool) {w : Search} → SameFind w w → SameFind (if b then Found (pt_at back n) (get_location r (pt_at back n)).loc else w) (if b then Found (pt_at back n) (get_location r (pt_at back n)).loc else w)
+      go : (b : Bool) {w : Option SidePoint} → SameFind w w → SameFind (if b then found_at (pt_at back n) (get_location r (pt_at back n)).loc else w) (if b then found_at (pt_at back n) (get_location r (pt_at back n)).loc else w)
       go true g = finds (pt_at back n) (get_location r (pt_at back n)).loc
       go false g = g
 
@@ -205,7 +204,7 @@ module _ (full : ℕ → Bool) (r : Rect64) (lr : LimitedRect r) (u : Side) (fro
 
   -- the search for a point off the edges, where there is a point behind the run
   found_back : (b : Point64) (bs run : List Point64) → last_of q run ≡ end
-      → last_off r (route front p q run (b ∷ bs)) (length (route front p q run (b ∷ bs)) - 1) ≡ back_to r (length bs) (b ∷ bs) (Found end (get_location r end).loc)
+      → last_off r (route front p q run (b ∷ bs)) (length (route front p q run (b ∷ bs)) - 1) ≡ back_to r (length bs) (b ∷ bs) (found_at end (get_location r end).loc)
   found_back b bs run e =
       ap (λ (path : List Point64). last_off r path (length path - 1)) (sym (append_assoc front (p ∷ q ∷ run) (b ∷ bs)))
       ∙ off_found r (front ++ (p ∷ q ∷ run)) b bs end (omega (arith, length-append front (p ∷ q ∷ run))) (last_append origin front (p ∷ q ∷ run) ∙ e) end_off
@@ -215,8 +214,8 @@ module _ (full : ℕ → Bool) (r : Rect64) (lr : LimitedRect r) (u : Side) (fro
   same_search [] e = never end_off e
   same_search (b ∷ bs) e = to_both (found_back b bs run refl) (found_back b bs run' (sym d.same)) (back_finds r (length bs) (b ∷ bs) end (get_location r end).loc)
     where
-      to_both : {w w' z : Search} → w ≡ z → w' ≡ z → SameFind z z → SameFind w w'
-      to_both {w} {w'} {z} e f g = subst (λ (w : Search). SameFind w w') (sym e) (subst (SameFind z) (sym f) g)
+      to_both : {w w' z : Option SidePoint} → w ≡ z → w' ≡ z → SameFind z z → SameFind w w'
+      to_both {w} {w'} {z} e f g = subst (λ (w : Option SidePoint). SameFind w w') (sym e) (subst (SameFind z) (sym f) g)
 
   module _ (back : List Point64) (lim : All Limited (route front p q run back)) (lim' : All Limited (route front p q run' back)) where
     abbrev path : List Point64

@@ -1,6 +1,6 @@
 -- 10/13 of the walk of lines: what RunWalk asks of it, and its start, which looks at the first point and, where that is on an edge, forwards for a
 -- point off the edges. It comes to the run's first point at the latest.
-use Rattle.std.specs.Prelude.{if◌then◌else◌}
+use Rattle.std.specs.Prelude.{if◌then◌else◌, Option, None, Some}
 use mathlib.Core.Path.{◌≡◌, refl, sym, ◌∙◌, ap, subst}
 use mathlib.Core.Bool.{Bool, true, false}
 use mathlib.Core.List.{List, [], ◌∷◌, ◌++◌}
@@ -8,18 +8,17 @@ use Prim.Native.Nat.{ℕ, ◌+◌, ◌≤◌}
 use native.Mathlib.Omega.{arith}
 use lib.ListN.{length, length-append, drop}
 use lib.Dec.{T, ltb}
+use Rattle.plane.specs.declared.crossing.SidePoint.{SidePoint}
 use Rattle.plane.specs.declared.point.Point64.{Point64}
 use Rattle.plane.specs.declared.rect.Rect64.{Rect64}
 use Rattle.plane.specs.declared.location.Location.{Location}
 use Rattle.plane.specs.declared.location.Location.TheVariants.{Inside}
-use Rattle.plane.specs.declared.crossing.Search.{Search}
-use Rattle.plane.specs.declared.crossing.Search.TheVariants.{Missed, Found}
 use Rattle.plane.specs.Basics.{Try, ok, ◌>>=◌}
 use Rattle.plane.specs.Limit.{Limited, LimitedRect}
 use Rattle.plane.specs.Locations.{same_location, is_inside}
 use Rattle.plane.specs.Points.{pt_at}
 use Rattle.plane.specs.Rectangle.{get_location, beyond}
-use Rattle.plane.specs.Intersection.{get_intersection}
+use Rattle.plane.specs.Intersection.{found_at, get_intersection}
 use Rattle.reference.specs.Walk.{Walk, nothing_yet, add, add_all, Next}
 use Rattle.reference.specs.Lines.{first_off_edge, line_cross, line_walk_from, walk_open}
 use Rattle.theorems.proofs.Holds.{Holds, held, bind, anything, holds_map, All, all_split}
@@ -65,10 +64,10 @@ module _ (full : ℕ → Bool) (r : Rect64) (lr : LimitedRect r) (k : Proper r) 
           nx : Next
           nx = record { walk = s.walk; loc = l; i = s.i }
 
-          on : (z : Search) → Holds Q (turned_past full r [] nx s.loc q p z)
-          on Missed = held (stop_in r p t)
-          on (Found ip cl) =
-              bind (StaysAt full r [] nx) Q (line_cross full r nx s.loc q p ip) _ (cross_stays full r [] nx s.loc q p ip)
+          on : (z : Option SidePoint) → Holds Q (turned_past full r [] nx s.loc q p z)
+          on None = held (stop_in r p t)
+          on (Some found) =
+              bind (StaysAt full r [] nx) Q (line_cross full r nx s.loc q p found.point) _ (cross_stays full r [] nx s.loc q p found.point)
               (λ u g. past u (subst (λ (x : Location). In r x p) (sym g.1) (stop_in r p t)))
 
   module _ (u : Side) where
@@ -84,9 +83,9 @@ module _ (full : ℕ → Bool) (r : Rect64) (lr : LimitedRect r) (k : Proper r) 
         nx : Next
         nx = record { walk = s.walk; loc = loc u; i = s.i }
 
-        on : (z : Search) → Holds Gone (turned_past full r [] nx s.loc p q z)
-        on Missed = held (refl, tt)
-        on (Found ip l) = bind (StaysAt full r [] nx) Gone (line_cross full r nx s.loc p q ip) _ (cross_stays full r [] nx s.loc p q ip) (λ t g. holds_map (λ v h. (h ∙ g.1, tt)) (past_keeps q t))
+        on : (z : Option SidePoint) → Holds Gone (turned_past full r [] nx s.loc p q z)
+        on None = held (refl, tt)
+        on (Some found) = bind (StaysAt full r [] nx) Gone (line_cross full r nx s.loc p q found.point) _ (cross_stays full r [] nx s.loc p q found.point) (λ t g. holds_map (λ v h. (h ∙ g.1, tt)) (past_keeps q t))
 
     goes_over : (s : Next) (q p : Point64) → s.loc ≡ loc u → T (beyond r (loc u) p) → Alike SameNext (ok s) (line_at full r s q p)
     unfolding line_past
@@ -116,13 +115,13 @@ module _ (r : Rect64) where
   first_both (x ∷ xs) ys zs f = go (get_location r x).off (first_both xs ys zs f)
     where
       go : (b : Bool) → SameFind (first_off_edge r (xs ++ ys)) (first_off_edge r (xs ++ zs))
-          → SameFind (if b then Found x (get_location r x).loc else first_off_edge r (xs ++ ys)) (if b then Found x (get_location r x).loc else first_off_edge r (xs ++ zs))
+          → SameFind (if b then found_at x (get_location r x).loc else first_off_edge r (xs ++ ys)) (if b then found_at x (get_location r x).loc else first_off_edge r (xs ++ zs))
       go true g = finds x (get_location r x).loc
       go false g = g
 
   first_here : (q : Point64) (ys zs : List Point64) → (get_location r q).off ≡ true → SameFind (first_off_edge r (q ∷ ys)) (first_off_edge r (q ∷ zs))
   unfolding first_off_edge
-  first_here q ys zs e = subst (λ (b : Bool). SameFind (if b then Found q (get_location r q).loc else first_off_edge r ys) (if b then Found q (get_location r q).loc else first_off_edge r zs)) (sym e) (finds q (get_location r q).loc)
+  first_here q ys zs e = subst (λ (b : Bool). SameFind (if b then found_at q (get_location r q).loc else first_off_edge r ys) (if b then found_at q (get_location r q).loc else first_off_edge r zs)) (sym e) (finds q (get_location r q).loc)
 
 -- ---- the whole walk
 abbrev walked : Next → Try Walk

@@ -1,18 +1,18 @@
 -- Change 4/13: where a pass goes from outside to outside and the first search finds the segment, it meets an edge that the second search, from the
 -- other end and the location there, comes to. One argument for both clippers: a pass knows where it comes from (EachPass).
 use mathlib.Core.Path.{◌≡◌, refl, sym, ◌∙◌, ap}
-use mathlib.Core.Bool.{Bool, true, false}
+use mathlib.Core.Bool.{false}
 use mathlib.Core.Logic.{◌⊎◌, inl, inr}
+use Rattle.std.specs.Prelude.{Option, None, Some, is_some}
+use Rattle.plane.specs.declared.crossing.SidePoint.{SidePoint}
 use Rattle.plane.proofs.Limits.{rect_limited}
 use Rattle.plane.specs.declared.point.Point64.{Point64}
 use Rattle.plane.specs.declared.rect.Rect64.{Rect64}
 use Rattle.plane.specs.declared.location.Location.{Location}
-use Rattle.plane.specs.declared.crossing.Search.{Search}
-use Rattle.plane.specs.declared.crossing.Search.TheVariants.{Missed, Found}
 use Rattle.plane.specs.Limit.{Limited, LimitedRect}
 use Rattle.plane.specs.Points.{origin, pt_at, points_of}
 use Rattle.plane.specs.Locations.{is_inside}
-use Rattle.plane.specs.Intersection.{get_intersection, found_or}
+use Rattle.plane.specs.Intersection.{found_at, get_intersection, found_or}
 use Rattle.reference.specs.Walk.{second_search}
 use Rattle.theorems.specs.Walks.{given, point_before}
 use Rattle.theorems.specs.SecondSearch.{FindsBack, SecondSearchFinds}
@@ -25,13 +25,8 @@ use Rattle.theorems.proofs.Bridge.{told, search_told}
 use Rattle.theorems.proofs.EachPass.{before_within, in_every_pass}
 use Rattle.theorems.proofs.Tests.{never}
 
--- whether a search finds
-abbrev pub hit? : Search → Bool
-hit? Missed = false
-hit? (Found q l) = true
-
 module _ (r : Rect64) (lr : LimitedRect r) (k : Proper r) (p q : Point64) (lp : Limited p) (lq : Limited q) where
-  back_found : (l l' : Location) → Stop r p l l' → is_inside l' ≡ false → is_inside l ≡ false → In r l q → (ip : Point64) (c : Location) → get_intersection r p q l' ≡ Found ip c → get_intersection r q p l ≡ Missed → ⊥
+  back_found : (l l' : Location) → Stop r p l l' → is_inside l' ≡ false → is_inside l ≡ false → In r l q → (ip : Point64) (c : Location) → get_intersection r p q l' ≡ found_at ip c → get_intersection r q p l ≡ None → ⊥
   back_found l l' (enters s i inner) o b h ip c e f = never refl o
   back_found l l' (leaves t n) o b h ip c e f = never refl b
   back_found l l' (crosses s t i b') o b h ip c e f = go (finds_or_none r k p q t)
@@ -39,16 +34,16 @@ module _ (r : Rect64) (lr : LimitedRect r) (k : Proper r) (p q : Point64) (lp : 
       go : Finds r p q (loc t) ⊎ FindsNone r p q t → ⊥
       go (inl g) =
           let w = back r k p q s g.side (side_in r s q h) i g.meets in
-          never refl (sym (ap hit? (search_told r lr k q p lq lp (loc s) ∙ ap (told r lr k q p lq lp) w.at)) ∙ ap hit? f)
-      go (inr n) = never refl (sym (ap hit? e) ∙ ap hit? (search_told r lr k p q lp lq (loc t) ∙ ap (told r lr k p q lp lq) n.at))
+          never refl (sym (ap is_some (search_told r lr k q p lq lp (loc s) ∙ ap (told r lr k q p lq lp) w.at)) ∙ ap is_some f)
+      go (inr n) = never refl (sym (ap is_some e) ∙ ap is_some (search_told r lr k p q lp lq (loc t) ∙ ap (told r lr k p q lp lq) n.at))
 
   finds_back : (l l' : Location) → Stop r p l l' → In r l q → FindsBack r l l' q p
   unfolding second_search
   finds_back l l' st h o b ip c e = go (get_intersection r q p l) refl
     where
-      go : (m : Search) → get_intersection r q p l ≡ m → m ≡ Found (found_or m ip l).point (found_or m ip l).side
-      go Missed f = absurd (back_found l l' st o b h ip c e f)
-      go (Found ip2 t) f = refl
+      go : (m : Option SidePoint) → get_intersection r q p l ≡ m → m ≡ found_at (found_or m ip l).point (found_or m ip l).side
+      go None f = absurd (back_found l l' st o b h ip c e f)
+      go (Some found) f = refl
 
 pub second_search_finds : SecondSearchFinds
 second_search_finds closed full rect coords hr hc he =

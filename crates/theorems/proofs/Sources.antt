@@ -13,10 +13,9 @@ use Rattle.plane.specs.declared.rect.Rect64.{Rect64}
 use Rattle.plane.specs.declared.location.Spot.{Spot}
 use Rattle.plane.specs.declared.location.Location.{Location}
 use Rattle.plane.specs.declared.location.Location.TheVariants.{Left, Top, Right, Bottom, Inside}
-use Rattle.plane.specs.declared.crossing.Search.TheVariants.{Found}
 use Rattle.plane.specs.Points.{pt_at, origin}
 use Rattle.plane.specs.Rectangle.{as_path, get_location, is_empty, intersects, contains_rect, get_bounds_path, corner}
-use Rattle.plane.specs.Intersection.{get_intersection}
+use Rattle.plane.specs.Intersection.{found_at, get_intersection}
 use Rattle.reference.specs.Walk.{pt_before, walk_closed}
 use Rattle.plane.specs.Locations.{is_inside}
 use Rattle.reference.specs.Clip.{execute}
@@ -35,7 +34,7 @@ pub data Hit (r : Rect64) (a b q : Point64) : Type 0 where
   at_crossing : (s : Location) → ExactCrossing r s a b → NearTo r s a b q → Hit r a b q
 
 abbrev pub Searches : Rect64 → Point64 → Point64 → Type 0
-Searches r a b = (s : Location) (q : Point64) (t : Location) → get_intersection r a b s ≡ Found q t → Hit r a b q
+Searches r a b = (s : Location) (q : Point64) (t : Location) → get_intersection r a b s ≡ found_at q t → Hit r a b q
 
 in_or_on : (r : Rect64) (p : Point64) → WithinSides r p → InOrOn r p
 in_or_on r p h = record { left = ltZ_false h.left; right = ltZ_false h.right; top = ltZ_false h.top; bottom = ltZ_false h.bottom }
@@ -63,7 +62,7 @@ module _ (closed : Bool) (r : Rect64) (path : List Point64) (searches : (a b : P
   abbrev From : Point64 → Type 0
   From p = Source closed r path p
 
-  found : (a b : Point64) → Segment closed path a b → (s : Location) (q : Point64) (t : Location) → get_intersection r a b s ≡ Found q t → From q
+  found : (a b : Point64) → Segment closed path a b → (s : Location) (q : Point64) (t : Location) → get_intersection r a b s ≡ found_at q t → From q
   found a b g s q t e = go (searches a b g s q t e)
     where
       go : Hit r a b q → From q

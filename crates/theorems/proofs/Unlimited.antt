@@ -1,5 +1,5 @@
 -- A walk with limited lists either runs out of room, or is the walk with unlimited ones: what a call walks is the walked outline.
-use Rattle.std.specs.Prelude.{if◌then◌else◌}
+use Rattle.std.specs.Prelude.{if◌then◌else◌, Option, None, Some}
 use mathlib.Core.Path.{◌≡◌, ap}
 use mathlib.Core.Bool.{Bool, true, false, cond, not, ◌&&◌, ◌||◌}
 use mathlib.Core.List.{List, [], ◌∷◌}
@@ -7,12 +7,11 @@ use Prim.Native.Nat.{ℕ, zero, suc, ◌+◌, ◌-◌}
 use native.Mathlib.Omega.{arith}
 use lib.ListN.{length, drop}
 use lib.Dec.{leb, ltb}
+use Rattle.plane.specs.declared.crossing.SidePoint.{SidePoint}
 use Rattle.plane.specs.declared.point.Point64.{Point64}
 use Rattle.plane.specs.declared.rect.Rect64.{Rect64}
 use Rattle.plane.specs.declared.location.Location.{Location}
 use Rattle.plane.specs.declared.location.Location.TheVariants.{Left, Top, Right, Bottom, Inside}
-use Rattle.plane.specs.declared.crossing.Search.{Search}
-use Rattle.plane.specs.declared.crossing.Search.TheVariants.{Missed, Found}
 use Rattle.plane.specs.Basics.{is_nil, Try, refuse, ok, ◌>>=◌}
 use Rattle.plane.specs.Locations.{side, same_location, get_adjacent_location, heading_clockwise, is_inside}
 use Rattle.plane.specs.Points.{pt_at, same_point}
@@ -38,10 +37,10 @@ pub if_agree : {A : Type 0} (b : Bool) {x x' y y' : Try A} → Agree x x' → Ag
 if_agree true h k = h
 if_agree false h k = k
 
-pub search_agree : {A : Type 0} (m : Search) (x : Try A) (y : Try A) (f g : Point64 → Location → Try A) → Agree x y → ((q : Point64) (t : Location) → Agree (f q t) (g q t))
-    → Agree {A = A} (elim m [ Missed ↦ x | Found q t ↦ f q t ]) (elim m [ Missed ↦ y | Found q t ↦ g q t ])
-search_agree Missed x y f g h k = h
-search_agree (Found q t) x y f g h k = k q t
+pub search_agree : {A : Type 0} (m : Option SidePoint) (x : Try A) (y : Try A) (f g : Point64 → Location → Try A) → Agree x y → ((q : Point64) (t : Location) → Agree (f q t) (g q t))
+    → Agree {A = A} (elim m [ None ↦ x | Some found ↦ f found.point found.side ]) (elim m [ None ↦ y | Some found ↦ g found.point found.side ])
+search_agree None x y f g h k = h
+search_agree (Some found) x y f g h k = k found.point found.side
 
 module _ (full : ℕ → Bool) where
   -- the only difference

@@ -1,5 +1,5 @@
 -- What the walk enters in edge lists: nothing, or the four corners alone. One fact of geometry is a premise, `EntryFound`.
-use Rattle.std.specs.Prelude.{if◌then◌else◌}
+use Rattle.std.specs.Prelude.{if◌then◌else◌, None}
 use mathlib.Core.Path.{◌≡◌, refl, sym, ◌∙◌, ap, subst}
 use mathlib.Core.Bool.{Bool, true, false, cond, not, ◌&&◌, ◌||◌}
 use mathlib.Core.List.{List, [], ◌∷◌}
@@ -17,7 +17,6 @@ use Rattle.plane.specs.declared.point.Point64.{Point64}
 use Rattle.plane.specs.declared.rect.Rect64.{Rect64}
 use Rattle.plane.specs.declared.location.Location.{Location}
 use Rattle.plane.specs.declared.location.Location.TheVariants.{Left, Top, Right, Bottom, Inside}
-use Rattle.plane.specs.declared.crossing.Search.TheVariants.{Missed}
 use Rattle.plane.specs.Basics.{push, is_nil, lead, Try, ok, ◌>>=◌}
 use Rattle.plane.specs.Rectangle.{is_empty, get_location, mid_point, contains_point, get_bounds_path, as_path, corner, beyond_or_on}
 use Rattle.plane.specs.Points.{pt_at, origin, same_point}
@@ -96,7 +95,7 @@ module _ (full : ℕ → Bool) (rect : Rect64) (path : List Point64) (found : En
     prior = prior_go m refl
 
     -- where no crossing is found the point is outside
-    outside : k < length path → get_intersection rect (pt_at path k) (pt_before path k) (next_side rect l (pt_at path k)) ≡ Missed
+    outside : k < length path → get_intersection rect (pt_at path k) (pt_before path k) (next_side rect l (pt_at path k)) ≡ None
         → (is_inside (next_side rect l (pt_at path k)) ≡ false) × (beyond_or_on rect (next_side rect l (pt_at path k)) (pt_at path k) ≡ true)
     outside h e = ⊎_elim
         (λ z. absurd (found l k h li prior (stops h) z (ap (get_intersection rect (pt_at path k) (pt_before path k)) (sym z) ∙ e)))
@@ -118,7 +117,7 @@ module _ (full : ℕ → Bool) (rect : Rect64) (path : List Point64) (found : En
       (λ ip l z. cross_out full rect _ ip l (found_side rect (pt_at path n.i) (pt_before path n.i) ip l n.loc z)))
 
   from_st : (s : State) (n : Next) → s.walk.points ≡ [] → n.walk ≡ s.walk → is_inside s.crossing_loc ≡ true
-      → (n.i < length path → get_intersection rect (pt_at path n.i) (pt_before path n.i) n.loc ≡ Missed → (is_inside n.loc ≡ false) × (beyond_or_on rect n.loc (pt_at path n.i) ≡ true))
+      → (n.i < length path → get_intersection rect (pt_at path n.i) (pt_before path n.i) n.loc ≡ None → (is_inside n.loc ≡ false) × (beyond_or_on rect n.loc (pt_at path n.i) ≡ true))
       → Holds St (pass_from full rect path s n)
   unfolding pass_from
   from_st s n p w x f =

@@ -1,15 +1,14 @@
 -- The closed walk's two loops round the corners, `add_corners` and `push_start_locs`, wherever a call comes to them: each goes from a side to a
 -- side and has ended within its count. And no other corner is put down at Inside, which has none. Statements only, pass by pass along the definition.
-use Rattle.std.specs.Prelude.{◌≡◌, Bool, true, false, ◌⊎◌, List, [], ◌∷◌, ℕ, zero, suc, T, ℤ}
+use Rattle.std.specs.Prelude.{◌≡◌, Bool, true, false, ◌⊎◌, List, [], ◌∷◌, ℕ, zero, suc, T, ℤ, None}
 use Rattle.plane.specs.declared.point.Point64.{Point64}
 use Rattle.plane.specs.declared.rect.Rect64.{Rect64}
 use Rattle.plane.specs.declared.location.Location.{Location}
-use Rattle.plane.specs.declared.crossing.Search.TheVariants.{Missed, Found}
 use Rattle.plane.specs.Basics.{ok}
 use Rattle.plane.specs.Points.{pt_at, points_of}
 use Rattle.plane.specs.Locations.{same_location, is_inside, get_adjacent_location}
 use Rattle.plane.specs.Rectangle.{is_empty, mid_point, get_location}
-use Rattle.plane.specs.Intersection.{get_intersection}
+use Rattle.plane.specs.Intersection.{found_at, get_intersection}
 use Rattle.plane.specs.Signs.{is_clockwise_dir}
 use Rattle.plane.specs.Limit.{rect_in_limit, all_in_limit}
 use Rattle.reference.specs.Counts.{corner_steps}
@@ -33,12 +32,12 @@ AllSides (l ∷ ls) = (is_inside l ≡ false) × AllSides ls
 -- ---- one pass
 pub record PassEnds (rect : Rect64) (c : Pass) : Type 0 where
   -- "remaining outside": start sides or corners, up to the new location
-  pub outside : get_intersection rect c.pt c.prev_pt c.loc ≡ Missed → GoesRound c.prev c.loc (is_clockwise_dir c.prev c.loc c.prev_pt c.pt (mid_point rect))
+  pub outside : get_intersection rect c.pt c.prev_pt c.loc ≡ None → GoesRound c.prev c.loc (is_clockwise_dir c.prev c.loc c.prev_pt c.pt (mid_point rect))
   -- "path must be entering rect": corners up to the side of the crossing
-  pub entering : (ip : Point64) (s : Location) → get_intersection rect c.pt c.prev_pt c.loc ≡ Found ip s → is_inside c.loc ≡ true
+  pub entering : (ip : Point64) (s : Location) → get_intersection rect c.pt c.prev_pt c.loc ≡ found_at ip s → is_inside c.loc ≡ true
       → GoesRound c.prev s (is_clockwise_dir c.prev s c.prev_pt c.pt (mid_point rect))
   -- "passing right through rect": no loop; its corners are those of the two crossings' sides and of the point's location
-  pub passing : (ip : Point64) (s : Location) → get_intersection rect c.pt c.prev_pt c.loc ≡ Found ip s → is_inside c.loc ≡ false → is_inside c.prev ≡ false
+  pub passing : (ip : Point64) (s : Location) → get_intersection rect c.pt c.prev_pt c.loc ≡ found_at ip s → is_inside c.loc ≡ false → is_inside c.prev ≡ false
       → AllSides (s ∷ (second_search rect c.prev_pt c.pt c.prev ip).side ∷ (get_location rect c.pt).loc ∷ [])
 
 module _ (full : ℕ → Bool) (rect : Rect64) (path : List Point64) where

@@ -1,18 +1,16 @@
 -- `get_intersection`: a search finds something exactly where the segment has an exact crossing with one of the sides that it tries.
 -- Statements only; proofs: Search, AlongStays. How far a find may be from its exact crossing is in Demand (`NearTo`).
-use Rattle.std.specs.Prelude.{◌≡◌, true, false, negsuc, ◌*ℤ◌, ◌≤ℤ◌}
+use Rattle.std.specs.Prelude.{◌≡◌, true, false, negsuc, ◌*ℤ◌, ◌≤ℤ◌, None, Some}
 use Rattle.plane.specs.declared.point.Point64.{Point64}
 use Rattle.plane.specs.declared.rect.Rect64.{Rect64}
 use Rattle.plane.specs.declared.location.Location.{Location}
-use Rattle.plane.specs.declared.crossing.Meeting.TheVariants.{Met}
-use Rattle.plane.specs.declared.crossing.Search.TheVariants.{Missed, Found}
 use Rattle.plane.specs.Limit.{Limited, LimitedRect}
 use Rattle.plane.specs.Locations.{is_inside, lower, upper}
 use Rattle.plane.specs.Rectangle.{as_path, is_empty, beyond}
 use Rattle.plane.specs.Points.{pt_at}
 use Rattle.plane.specs.Signs.{cross_product_sign}
 use Rattle.plane.specs.Segment.{intersection}
-use Rattle.plane.specs.Intersection.{edge_from, edge_to, get_intersection}
+use Rattle.plane.specs.Intersection.{found_at, edge_from, edge_to, get_intersection}
 use Rattle.theorems.specs.Demand.{ExactCrossing, along, begin_of, end_of}
 
 -- the sides that a search from p tries: its own, the lower neighbour if p is beyond that, the upper neighbour; from inside all four
@@ -29,11 +27,11 @@ pub record Finds (r : Rect64) (p q : Point64) (loc side : Location) : Type 0 whe
 
 -- within the coordinate limit, on a rectangle that is not empty: where one of these sides has an exact crossing, the search does not miss
 abbrev pub SearchFinds : Type 0
-SearchFinds = (r : Rect64) (p q : Point64) (loc side : Location) → LimitedRect r → Limited p → Limited q → is_empty r ≡ false → Finds r p q loc side → get_intersection r p q loc ≡ Missed → ⊥
+SearchFinds = (r : Rect64) (p q : Point64) (loc side : Location) → LimitedRect r → Limited p → Limited q → is_empty r ≡ false → Finds r p q loc side → get_intersection r p q loc ≡ None → ⊥
 
 -- and what it finds is on such a side
 abbrev pub SearchExact : Type 0
-SearchExact = (r : Rect64) (p q z : Point64) (loc side : Location) → LimitedRect r → Limited p → Limited q → is_empty r ≡ false → get_intersection r p q loc ≡ Found z side → Finds r p q loc side
+SearchExact = (r : Rect64) (p q z : Point64) (loc side : Location) → LimitedRect r → Limited p → Limited q → is_empty r ≡ false → get_intersection r p q loc ≡ found_at z side → Finds r p q loc side
 
 -- ---- document 02, 2/13: crossings lie on their edge
 -- where `get_segment_intersection` comes to its float crossing: the ends of the segment lie strictly on either side of the edge's line, and those of the edge on either side of the segment's
@@ -45,4 +43,4 @@ pub record Passes (p q a b : Point64) : Type 0 where
 abbrev pub AlongStays : Type 0
 AlongStays = (r : Rect64) (side : Location) (p q z : Point64) → LimitedRect r → Limited p → Limited q → is_empty r ≡ false → is_inside side ≡ false
     → let a = pt_at (as_path r) (edge_from side) in let b = pt_at (as_path r) (edge_to side) in
-    Passes p q a b → intersection p q a b ≡ Met z → (begin_of r side ≤ℤ along side z) × (along side z ≤ℤ end_of r side)
+    Passes p q a b → intersection p q a b ≡ Some z → (begin_of r side ≤ℤ along side z) × (along side z ≤ℤ end_of r side)

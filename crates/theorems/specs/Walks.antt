@@ -1,12 +1,12 @@
 -- The passes of both walks in the same words, so that what holds in every pass is said once. `closed` tells which: true for the closed path's `while`,
 -- that of `walk_closed`, false for the open path's, that of `walk_open`.
-use Rattle.std.specs.Prelude.{◌≡◌, Bool, true, false, List, ℕ, zero, suc, ◌-◌, length, drop, ltb, leb, if◌then◌else◌}
+use Rattle.std.specs.Prelude.{◌≡◌, Bool, true, false, List, ℕ, zero, suc, ◌-◌, length, drop, ltb, leb, if◌then◌else◌, Option}
+use Rattle.plane.specs.declared.crossing.SidePoint.{SidePoint}
+use Rattle.plane.specs.Intersection.{found_at}
 use Rattle.plane.specs.declared.point.Point64.{Point64}
 use Rattle.plane.specs.declared.rect.Rect64.{Rect64}
 use Rattle.plane.specs.declared.location.Location.{Location}
 use Rattle.plane.specs.declared.location.Location.TheVariants.{Inside}
-use Rattle.plane.specs.declared.crossing.Search.{Search}
-use Rattle.plane.specs.declared.crossing.Search.TheVariants.{Found}
 use Rattle.plane.specs.Basics.{Try, ok, ◌>>=◌}
 use Rattle.plane.specs.Points.{pt_at}
 use Rattle.plane.specs.Locations.{is_inside}
@@ -42,14 +42,14 @@ start_point path false = pt_at path 0
 
 module _ (rect : Rect64) (path : List Point64) where
   -- the search for a point off the edges, where that one is on an edge
-  abbrev pub point_off : Bool → Search
+  abbrev pub point_off : Bool → Option SidePoint
   point_off true = last_off rect path (length path - 1)
   point_off false = first_off_edge rect (drop 1 path)
 
   -- the two locations that it may start from
   pub data StartsFrom (closed : Bool) : Location → Type 0 where
     off_edges : (get_location rect (start_point path closed)).off ≡ true → StartsFrom closed (get_location rect (start_point path closed)).loc
-    on_edge : (get_location rect (start_point path closed)).off ≡ false → (p : Point64) (prev : Location) → point_off closed ≡ Found p prev
+    on_edge : (get_location rect (start_point path closed)).off ≡ false → (p : Point64) (prev : Location) → point_off closed ≡ found_at p prev
         → StartsFrom closed (if is_inside prev then Inside else (get_location rect (start_point path closed)).loc)
 
 -- its state there: nothing is put down, but for the first point of an open path that starts inside

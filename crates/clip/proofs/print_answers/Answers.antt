@@ -8,18 +8,18 @@ use Rattle.clip.proofs.print_answers.Goals as goal
 pub loop-number-init : goal.loop-number-init
 loop-number-init g c = record { long = search rules; printed = printed_start }
 
-pub returns-then-not-taken : goal.returns-then-not-taken
-returns-then-not-taken g c = printed_end c.loop-number.invariant.printed c.take_line-taken.ensures.taken (search rules)
+pub returns-in_default : goal.returns-in_default
+returns-in_default g c = printed_end c.loop-number.invariant.printed c.take_line.ensures.taken c.in_default.is
 
-pub returns-then-not-taken-2 : goal.returns-then-not-taken-2
-returns-then-not-taken-2 g c =
-    printed_last c.loop-number.invariant.printed c.take_line-taken.ensures.taken c.loop-number.invariant.long c.loop-number-test.true (to_z_pos w64 (search rules)) c.answer_line-n.ensures.gives
-    c.in_ok-write_all.ensures.bytes (search rules) (search rules)
+pub returns-then-not-taken : goal.returns-then-not-taken
+returns-then-not-taken g c =
+    printed_last c.loop-number.invariant.printed c.take_line.ensures.taken c.in-Some.is c.loop-number.invariant.long c.loop-number-test.true (to_z_pos w64 (search rules)) c.answer_line-n.ensures.gives
+    c.in_ok-write_all.ensures.bytes (search rules)
 
 pub loop-number-preserved : goal.loop-number-preserved
 loop-number-preserved g c = record {
   long = search rules;
-  printed = printed_line c.loop-number.invariant.printed c.take_line-taken.ensures.taken c.loop-number.invariant.long c.loop-number-test.true (to_z_pos w64 (search rules)) c.answer_line-n.ensures.gives
+  printed = printed_line c.loop-number.invariant.printed c.take_line.ensures.taken c.in-Some.is c.loop-number.invariant.long c.loop-number-test.true (to_z_pos w64 (search rules)) c.answer_line-n.ensures.gives
       c.in_ok-write_all.ensures.bytes (search rules);
 }
 

@@ -1,5 +1,5 @@
 -- `firmware::words::read_words` meets its contract.
-use Rattle.std.proofs.Common.{refl, arith, rules}
+use Rattle.std.proofs.Common.{refl, rules}
 use mir.Syntax.{w64}
 use mir.Val.{SFits}
 use mir.Facts.{to_z-of_z}
@@ -9,7 +9,7 @@ use Rattle.firmware.proofs.words.read_words.Goals as goal
 pub loop-i-preserved : goal.loop-i-preserved
 loop-i-preserved c =
     let f : SFits w64 c.read_word.result = search rules in
-    (read_again c.loop-i.invariant.0 (omega (arith, c.loop-i.invariant.1)) (simp to_z-of_z c.read_word.ensures) refl, refl)
+    read_again c.loop-i.invariant c.loop-i-test.true (simp to_z-of_z c.read_word.ensures) refl
 
 pub returns : goal.returns
-returns c = read_end c.loop-i.invariant.0 (omega (arith, c.loop-i.invariant.1))
+returns c = read_end c.loop-i.invariant c.loop-i-test.false

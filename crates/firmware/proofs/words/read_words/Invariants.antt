@@ -1,10 +1,6 @@
 -- `firmware::words::read_words`: the first i numbers are read.
-use Rattle.std.proofs.Common.{◌-◌, ◌/◌, ◌≡◌, length}
 use Rattle.firmware.proofs.Bytes.{ReadTo}
 use Rattle.firmware.proofs.words.read_words.Given as goal
 
 abbrev pub invariant-loop-i : goal.invariant-loop-i
-invariant-loop-i l = ReadTo l.bytes l.fn.path l.path l.i × (l.count ≡ length l.bytes / 4)
-
-abbrev pub decreases-loop-i : goal.decreases-loop-i
-decreases-loop-i l = l.count - l.i
+invariant-loop-i l = ReadTo l.bytes l.fn.path l.path l.i

@@ -1,33 +1,35 @@
 -- `program::answers::answer_path` meets its contract.
-use Rattle.std.proofs.Common.{rules}
+use Rattle.std.proofs.Common.{sym, rules}
+use lib.Seq.{length-take-le}
 use mir.Syntax.{w64}
 use mir.Val.{SFits}
 use mir.Facts.{to_z-of_z}
 use Rattle.program.proofs.Lines.{prints_as}
-use Rattle.program.proofs.Given.{refused_line, path_refused, path_printable, path_drawn}
+use Rattle.program.proofs.Given.{refused_line, paths_here, path_refused, path_printable, path_drawn}
 use Rattle.program.proofs.Exact.{path_exact}
 use Rattle.program.proofs.answers.answer_path.Goals as goal
 
+pub slice_bounds-lengths-end : goal.slice_bounds-lengths-end
+slice_bounds-lengths-end c =
+    paths_here c.args.closed c.args.line c.args.rect c.args.path.now c.requires c.clip-answer.ensures.leaves _ c.in-Ok.is
+
+pub slice_bounds-write_paths-end-in-Ok : goal.slice_bounds-write_paths-end-in-Ok
+slice_bounds-write_paths-end-in-Ok c = sym (length-take-le _ _ (paths_here c.args.closed c.args.line c.args.rect c.args.path.now c.requires c.clip-answer.ensures.leaves _ c.in-Ok.is))
+
+pub returns-in-Err-clause-gives : goal.returns-in-Err-clause-gives
+returns-in-Err-clause-gives c =
+    path_refused c.args.closed c.args.line c.args.rect c.args.path.now c.requires c.clip-answer.ensures.leaves _ c.in-Err.is (refused_line _ (to_z-of_z c.ranges.line) c.write_why.ensures)
+
 pub write_paths-requires : goal.write_paths-requires
 write_paths-requires c =
-    path_printable c.args.closed _ c.args.rect c.args.path.now c.requires c.clip-answer.ensures.leaves _ c.in-Drawn.is c.args.out.now (search rules)
+    path_printable c.args.closed _ c.args.rect c.args.path.now c.requires c.clip-answer.ensures.leaves _ c.in-Ok.is c.args.out.now (search rules)
 
-pub returns-in-Refused-clause-gives : goal.returns-in-Refused-clause-gives
-returns-in-Refused-clause-gives c =
+pub returns-in-Ok-clause-gives : goal.returns-in-Ok-clause-gives
+returns-in-Ok-clause-gives c =
     let f : SFits w64 c.args.line = search rules in
-    path_refused c.args.closed c.args.line c.args.rect c.args.path.now c.requires c.clip-answer.ensures.leaves _ c.in-Refused.is (refused_line _ (search rules) (to_z-of_z f) c.write_why.ensures)
+    path_drawn c.args.closed c.args.line c.args.rect c.args.path.now c.requires c.clip-answer.ensures.leaves _ c.in-Ok.is c.args.out.now (search rules) (prints_as c.args.closed (to_z-of_z f) c.write_paths.ensures)
 
-pub returns-in-Refused-clause-exact : goal.returns-in-Refused-clause-exact
-returns-in-Refused-clause-exact c =
+pub returns-in-Ok-clause-exact : goal.returns-in-Ok-clause-exact
+returns-in-Ok-clause-exact c =
     let f : SFits w64 c.args.line = search rules in
-    path_exact (path_refused c.args.closed c.args.line c.args.rect c.args.path.now c.requires c.clip-answer.ensures.leaves _ c.in-Refused.is (refused_line _ (search rules) (to_z-of_z f) c.write_why.ensures))
-
-pub returns-in-Drawn-clause-gives : goal.returns-in-Drawn-clause-gives
-returns-in-Drawn-clause-gives c =
-    let f : SFits w64 c.args.line = search rules in
-    path_drawn c.args.closed c.args.line c.args.rect c.args.path.now c.requires c.clip-answer.ensures.leaves _ c.in-Drawn.is c.args.out.now (search rules) (prints_as c.args.closed (to_z-of_z f) c.write_paths.ensures)
-
-pub returns-in-Drawn-clause-exact : goal.returns-in-Drawn-clause-exact
-returns-in-Drawn-clause-exact c =
-    let f : SFits w64 c.args.line = search rules in
-    path_exact (path_drawn c.args.closed c.args.line c.args.rect c.args.path.now c.requires c.clip-answer.ensures.leaves _ c.in-Drawn.is c.args.out.now (search rules) (prints_as c.args.closed (to_z-of_z f) c.write_paths.ensures))
+    path_exact (path_drawn c.args.closed c.args.line c.args.rect c.args.path.now c.requires c.clip-answer.ensures.leaves _ c.in-Ok.is c.args.out.now (search rules) (prints_as c.args.closed (to_z-of_z f) c.write_paths.ensures))

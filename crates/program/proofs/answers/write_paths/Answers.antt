@@ -1,20 +1,21 @@
 -- `program::answers::write_paths` meets its contract.
-use Rattle.std.proofs.Common.{refl, sym, rules}
-use mir.Syntax.{w64}
-use mir.Val.{SFits}
+use Rattle.std.proofs.Common.{sym}
 use mir.Facts.{to_z-of_z}
-use Rattle.program.proofs.Lines.{holds_as, paths_again, part_here, line_room}
+use Rattle.program.proofs.Lines.{holds_as, paths_again, paths_end, part_here, line_room}
 use Rattle.program.proofs.answers.write_paths.Goals as goal
 
-pub slice_bounds-add_path-end : goal.slice_bounds-add_path-end
-slice_bounds-add_path-end c =
-    let f : SFits w64 c.args.line = search rules in
-    part_here (c.loop-i.invariant c.requires.paths (holds_as c.args.closed (sym (to_z-of_z f)) c.requires.holds)) c.loop-i-test.true
+pub split_at-requires : goal.split_at-requires
+split_at-requires c =
+    part_here (c.loop-points.invariant c.requires.paths (holds_as c.args.closed (sym (to_z-of_z c.ranges.line)) c.requires.holds)) c.loop-points-test.true
 
 pub add_path-end-requires : goal.add_path-end-requires
 add_path-end-requires c =
-    let f : SFits w64 c.args.line = search rules in
-    line_room (c.loop-i.invariant c.requires.paths (holds_as c.args.closed (sym (to_z-of_z f)) c.requires.holds)) c.loop-i-test.true refl
+    line_room (c.loop-points.invariant c.requires.paths (holds_as c.args.closed (sym (to_z-of_z c.ranges.line)) c.requires.holds)) c.loop-points-test.true c.split_at.ensures.front c.split_at.ensures.back
 
-pub loop-i-preserved : goal.loop-i-preserved
-loop-i-preserved c = λ all h. paths_again (c.loop-i.invariant all h) c.loop-i-test.true refl c.add_path-end.ensures
+pub loop-points-preserved : goal.loop-points-preserved
+loop-points-preserved c = λ all h. paths_again (c.loop-points.invariant all h) c.loop-points-test.true c.split_at.ensures.front c.split_at.ensures.back c.add_path-end.ensures
+
+pub returns : goal.returns
+returns c = record {
+  is = λ all h. rw (to_z-of_z c.ranges.line) at (paths_end (c.loop-points.invariant all (holds_as c.args.closed (sym (to_z-of_z c.ranges.line)) h)) c.loop-points-test.false);
+}

@@ -1,26 +1,26 @@
--- `rectclip::idle::idle_along` meets its contract: each pass is a turn of the definition that changes nothing.
+-- `idle_along` meets its contract: each pass is a turn of the definition that changes nothing.
 use native.Mathlib.Omega.{arith}
-use Prim.Native.Nat.{◌+◌, ◌*◌}
-use Rattle.rectclip.proofs.Seeking.{sought_there}
-use Rattle.rectclip.proofs.Turns.{live_root}
-use Rattle.rectclip.proofs.Idling.{live_entry, idled_sought, idled_apart}
+use mathlib.Core.Path.{◌≡◌, sym, ◌∙◌, ap}
+use Prim.Native.Nat.{◌+◌, ◌-◌}
+use Rattle.rectclip.specs.Arenas.{mark}
+use Rattle.rectclip.proofs.Seeking.{sought_there, entry_some}
+use Rattle.rectclip.proofs.Idling.{idled_sought, idled_apart}
 use Rattle.rectclip.proofs.idle.idle_along.Goals as goal
 
-pub returns-then-len-j : goal.returns-then-len-j
-returns-then-len-j c =
-    idled_sought c.loop-left.invariant c.seek-j.ensures
+pub returns-then-a-ccw : goal.returns-then-a-ccw
+returns-then-a-ccw c = idled_sought c.loop-taken.invariant c.seek-j.ensures
 
-pub four_of-f-requires : goal.four_of-f-requires
-four_of-f-requires c =
-    let root1_in = live_entry c.requires c.entry_of-root1.result c.entry_of-root1.ensures in
-    let root2_in = live_root c.requires.turning.holds (c.args.idx * 2 + 1) c.loop-left.j c.seek-j.result c.entry_of-root2.result (omega (arith, c.requires.turning.side_in)) c.seek-j.ensures (omega (arith, c.if-len-j.false, c.requires.len_is)) c.entry_of-root2.ensures in
-    (c.requires.turning.holds, root1_in, root2_in)
+pub unwrap-root2-requires : goal.unwrap-root2-requires
+unwrap-root2-requires c =
+    entry_some c.args.a.now _ _ _ _ (omega (arith, c.requires.turning.side_in)) c.seek-j.ensures (omega (arith, c.if-a-ccw.false)) c.entry_of-in-loop-taken.ensures.is
 
 pub returns-then-overlap : goal.returns-then-overlap
-returns-then-overlap c =
-    idled_sought c.loop-left.invariant c.seek-j.ensures
+returns-then-overlap c = idled_sought c.loop-taken.invariant c.seek-j.ensures
 
-pub loop-left-preserved : goal.loop-left-preserved
-loop-left-preserved c =
-    let on = idled_sought c.loop-left.invariant c.seek-j.ensures in
-    idled_apart c.requires on c.loop-left-test.true c.entry_of-root1.result c.entry_of-root1.ensures c.if-len-j.false (sought_there c.seek-j.ensures) c.entry_of-root2.result c.entry_of-root2.ensures c.four_of-f.result c.four_of-f.ensures c.overlap.ensures c.if-overlap.false
+pub loop-taken-preserved : goal.loop-taken-preserved
+loop-taken-preserved c =
+    let on = idled_sought c.loop-taken.invariant c.seek-j.ensures in
+    let root1 = sym (ap mark c.unwrap-root1.ensures) ∙ c.entry_of.ensures.is in
+    let root2 = sym (ap mark c.unwrap-root2.ensures) ∙ c.entry_of-in-loop-taken.ensures.is in
+    let one : c.args.allowed - c.loop-taken.taken - 1 ≡ c.args.allowed - (c.loop-taken.taken + 1) = omega arith in
+    rw one at (idled_apart c.requires on (omega arith) _ root1 c.if-a-ccw.false (sought_there c.seek-j.ensures) _ root2 c.four_of-f.result c.four_of-f.ensures c.overlap.ensures c.if-overlap.false)

@@ -13,4 +13,4 @@ loop-i-preserved c =
     scan_again c.loop-i.invariant c.requires c.loop-i-test.true (back c.is_past-arg-1.given refl) c.is_past.ensures (c.if-not-is_past.false)
 
 pub returns : goal.returns
-returns c = scan_ends c.loop-i.invariant c.loop-i-test.false
+returns c = scan_ends c.loop-i.invariant c.loop-i-test.false c.max.ensures

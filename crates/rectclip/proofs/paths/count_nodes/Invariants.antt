@@ -1,9 +1,7 @@
--- `rectclip::paths::count_nodes` meets its contract: the loop goes round as the definition does.
+-- `count_nodes` meets its contract: the loop goes round as the definition does.
+use Prim.Native.Nat.{◌-◌}
 use Rattle.rectclip.proofs.Counting.{Counting}
 use Rattle.rectclip.proofs.paths.count_nodes.Given as goal
 
-abbrev pub invariant-loop-left : goal.invariant-loop-left
-invariant-loop-left l = Counting l.s l.work l.start l.curr l.count l.left
-
-abbrev pub decreases-loop-left : goal.decreases-loop-left
-decreases-loop-left l = l.left
+abbrev pub invariant-loop-pass : goal.invariant-loop-pass
+invariant-loop-pass l = Counting l.a l.start l.curr l.count (l._pass-end - l._pass)

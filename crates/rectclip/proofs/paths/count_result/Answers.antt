@@ -1,11 +1,13 @@
--- `rectclip::paths::count_result` meets its contract, one law for each way.
+-- `count_result` meets its contract, one law for each way.
+use mathlib.Core.Path.{refl}
+use Rattle.plane.specs.Basics.{none}
+use Rattle.rectclip.proofs.Changes.{node_some}
 use Rattle.rectclip.proofs.Counting.{counts_none, counts_some}
 use Rattle.rectclip.proofs.paths.count_result.Goals as goal
 
-pub returns-then-start-eq-NONE : goal.returns-then-start-eq-NONE
-returns-then-start-eq-NONE c =
-    counts_none c.args.i c.args.so_far c.requires.2 c.requires.3 c.result_of-start.result c.result_of-start.ensures c.if-start-eq-NONE.true
+pub returns-in_default : goal.returns-in_default
+returns-in_default c = counts_none c.args.i c.args.so_far c.requires.1 c.requires.2 none c.in_default.ensures.is refl
 
 pub returns : goal.returns
 returns c =
-    counts_some c.args.i c.args.so_far c.requires.2 c.requires.3 c.result_of-start.result c.result_of-start.ensures c.if-start-eq-NONE.false c.count_nodes-count.result c.count_nodes-count.ensures
+    counts_some c.args.i c.args.so_far c.requires.1 c.requires.2 c.in-Some.start c.in-Some.ensures.is (node_some c.args.a.now c.in-Some.start c.in-Some.ensures.within) c.count_nodes-count.result c.count_nodes-count.ensures

@@ -5,18 +5,20 @@ use mir.Syntax.{w64}
 use mir.Val.{SFits}
 use Rattle.integers.specs.Tests.{eq_plain, ne_plain}
 use Rattle.plane.specs.Points.{points_of, pt_at}
-use Rattle.rectclip.proofs.ScanSteps.{index_before, level_is, pass_is, level_within, pass_within}
+use Rattle.rectclip.proofs.ScanSteps.{index_before, level_is, pass_is}
 use borrow.Author.Rules.{rules}
 use Rattle.rectclip.proofs.polygon.at_vertex.Goals as goal
 
-pub returns-then-curr-pt : goal.returns-then-curr-pt
-returns-then-curr-pt c =
+pub returns-then-curr-pt-clause-is : goal.returns-then-curr-pt-clause-is
+returns-then-curr-pt-clause-is c =
     let known : SFits w64 c.point_at-curr.result.y × SFits w64 c.args.pt.y = search rules in
     let (f, g) = known in
-    let path = c.args.polygon.now in record { is = level_is c.args.pt path c.args.first_idx c.args.s c.args.i c.point_at-curr.ensures (c.point_at-prev.ensures ∙ ap (λ (k : ℕ). pt_at (points_of path) k) (c.before_idx.ensures.is ∙ index_before c.args.pt path c.args.i)) (eq_plain _ _ f g c.if-curr-pt.true) c.on_line.ensures c.level.ensures; within = level_within c.args.pt path c.args.first_idx c.args.s c.args.i _ c.requires.here c.requires.bit c.on_line.result c.level.ensures }
+    let path = c.args.polygon.now in
+    level_is c.args.pt path c.args.first_idx c.args.s c.args.i c.point_at-curr.ensures (c.point_at-prev.ensures ∙ ap (λ (k : ℕ). pt_at (points_of path) k) (c.before_idx.ensures.is ∙ index_before c.args.pt path c.args.i)) (eq_plain _ _ f g c.if-curr-pt.true) c.on_line.ensures c.level.ensures
 
-pub returns : goal.returns
-returns c =
+pub returns-clause-is : goal.returns-clause-is
+returns-clause-is c =
     let known : SFits w64 c.point_at-curr.result.y × SFits w64 c.args.pt.y = search rules in
     let (f, g) = known in
-    let path = c.args.polygon.now in record { is = pass_is c.args.pt path c.args.first_idx c.args.s c.args.i c.point_at-curr.ensures (c.point_at-prev.ensures ∙ ap (λ (k : ℕ). pt_at (points_of path) k) (c.before_idx.ensures.is ∙ index_before c.args.pt path c.args.i)) (ne_plain _ _ f g c.if-curr-pt.false) c.edge_passes.ensures c.passed.ensures; within = pass_within c.args.pt path c.args.first_idx c.args.s c.args.i _ c.requires.here c.requires.bit c.edge_passes.result c.passed.ensures }
+    let path = c.args.polygon.now in
+    pass_is c.args.pt path c.args.first_idx c.args.s c.args.i c.point_at-curr.ensures (c.point_at-prev.ensures ∙ ap (λ (k : ℕ). pt_at (points_of path) k) (c.before_idx.ensures.is ∙ index_before c.args.pt path c.args.i)) (ne_plain _ _ f g c.if-curr-pt.false) c.edge_passes.ensures c.passed.ensures

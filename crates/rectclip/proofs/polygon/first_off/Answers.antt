@@ -1,7 +1,7 @@
 -- `first_off` meets its contract: it counts as the definition does. Assumes nothing.
 use mathlib.Core.Path.{◌≡◌, sym, ap, ◌∙◌}
 use mathlib.Core.Bool.{Bool, true, false}
-use Prim.Native.Nat.{◌/◌, ◌<◌}
+use Prim.Native.Nat.{ℕ, ◌/◌, ◌<◌}
 use borrow.Author.Rules.{rules}
 use native.Mathlib.Omega.{arith}
 use lib.IntN.{ℤ}
@@ -24,7 +24,7 @@ returns-then-p-pt c =
     let (f, g) = known in
     let h : i < length path / 2 = omega arith in
     let e = at_height c.args.pt.y false c.point_at-p.ensures (ne_plain _ _ f g c.if-p-pt.true) in
-    record { is = sym (first_stop c.args.pt path i h e) ∙ c.loop-i.invariant.0; within = omega arith }
+    record { is = sym (first_stop c.args.pt path i h e) ∙ c.loop-i.invariant; within = omega arith }
 
 pub loop-i-preserved : goal.loop-i-preserved
 loop-i-preserved c =
@@ -34,8 +34,10 @@ loop-i-preserved c =
     let (f, g) = known in
     let h : i < length path / 2 = omega arith in
     let e = at_height c.args.pt.y true c.point_at-p.ensures (eq_plain _ _ f g c.if-p-pt.false) in
-    (sym (first_turn c.args.pt path i h e) ∙ c.loop-i.invariant.0, omega arith)
+    sym (first_turn c.args.pt path i h e) ∙ c.loop-i.invariant
 
 pub returns : goal.returns
 returns c =
-    record { is = sym (first_end c.args.pt c.args.polygon.now c.loop-i.i (omega arith)) ∙ c.loop-i.invariant.0; within = omega arith }
+    let n : ℕ = length c.args.polygon.now / 2 in
+    let e : c.loop-i.i ≡ n = omega arith in
+    record { is = sym e ∙ (sym (first_end c.args.pt c.args.polygon.now c.loop-i.i (omega arith)) ∙ c.loop-i.invariant); within = omega arith }

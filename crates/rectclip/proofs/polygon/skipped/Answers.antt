@@ -2,7 +2,7 @@
 use Rattle.std.specs.Prelude.{if◌then◌else◌}
 use mathlib.Core.Path.{◌≡◌, sym, ap, ◌∙◌}
 use mathlib.Core.Bool.{Bool}
-use Prim.Native.Nat.{◌+◌, ◌-◌, ◌/◌, ◌<◌}
+use Prim.Native.Nat.{ℕ, ◌+◌, ◌-◌, ◌/◌, ◌<◌}
 use borrow.Author.Rules.{rules}
 use native.Mathlib.Omega.{arith}
 use lib.IntN.{ℤ}
@@ -24,7 +24,7 @@ returns-then-wrap-first_idx c =
     let path = a.polygon.now in
     let i = c.loop-i.i in
     let h : i < length path / 2 = omega arith in
-    record { is = sym (skip_wraps a.pt path a.is_above a.wrap a.first_idx a.from i c.loop-i.invariant.1.0 h c.if-wrap-first_idx.true) ∙ c.loop-i.invariant.0; within = omega arith }
+    record { is = sym (skip_wraps a.pt path a.is_above a.wrap a.first_idx a.from i c.loop-i.auto.i h c.if-wrap-first_idx.true) ∙ c.loop-i.invariant; within = omega arith }
 
 pub returns-then-not-same_side : goal.returns-then-not-same_side
 returns-then-not-same_side c =
@@ -35,7 +35,7 @@ returns-then-not-same_side c =
     let (f, g) = known in
     let e = same_height a.is_above a.pt.y c.point_at-p.ensures (simp to_z-of_z at c.same_side.ensures) in
     let h : i < length path / 2 = omega arith in
-    record { is = sym (skip_stops a.pt path a.is_above a.wrap a.first_idx a.from i c.loop-i.invariant.1.0 h c.if-wrap-first_idx.false (sym e ∙ c.if-not-same_side.true)) ∙ c.loop-i.invariant.0; within = omega arith }
+    record { is = sym (skip_stops a.pt path a.is_above a.wrap a.first_idx a.from i c.loop-i.auto.i h c.if-wrap-first_idx.false (sym e ∙ c.if-not-same_side.true)) ∙ c.loop-i.invariant; within = omega arith }
 
 pub loop-i-preserved : goal.loop-i-preserved
 loop-i-preserved c =
@@ -46,9 +46,11 @@ loop-i-preserved c =
     let (f, g) = known in
     let e = same_height a.is_above a.pt.y c.point_at-p.ensures (simp to_z-of_z at c.same_side.ensures) in
     let h : i < length path / 2 = omega arith in
-    (sym (skip_turn a.pt path a.is_above a.wrap a.first_idx a.from i c.loop-i.invariant.1.0 h c.if-wrap-first_idx.false (sym e ∙ c.if-not-same_side.false)) ∙ c.loop-i.invariant.0, (omega arith, omega arith))
+    sym (skip_turn a.pt path a.is_above a.wrap a.first_idx a.from i c.loop-i.auto.i h c.if-wrap-first_idx.false (sym e ∙ c.if-not-same_side.false)) ∙ c.loop-i.invariant
 
 pub returns : goal.returns
 returns c =
     let a = c.args in
-    record { is = sym (skip_end a.pt a.polygon.now a.is_above a.wrap a.first_idx (length a.polygon.now / 2 + a.from - c.loop-i.i) c.loop-i.i (omega arith)) ∙ c.loop-i.invariant.0; within = omega arith }
+    let n : ℕ = length a.polygon.now / 2 in
+    let e : c.loop-i.i ≡ n = omega arith in
+    record { is = sym e ∙ (sym (skip_end a.pt a.polygon.now a.is_above a.wrap a.first_idx (n + a.from - c.loop-i.i) c.loop-i.i (omega arith)) ∙ c.loop-i.invariant); within = omega arith }

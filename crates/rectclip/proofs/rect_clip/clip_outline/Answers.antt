@@ -1,17 +1,23 @@
 -- `clip_outline` meets its contract: the arena, what is left of it, and its paths.
 use mathlib.Core.Path.{sym}
-use Rattle.rectclip.proofs.OutlineClips.{may_clip, clipped_is, readable}
-use Rattle.rectclip.proofs.Handing.{gives_same}
+use Rattle.rectclip.proofs.Walking.{thrown}
+use Rattle.rectclip.proofs.OutlineClips.{arranging, may_clip, clipped_spent, clipped_is, readable}
+use Rattle.rectclip.proofs.Handing.{gives_same, gives_refusal}
 use Rattle.rectclip.proofs.rect_clip.clip_outline.Goals as goal
 
-pub clip_walked-clipped-requires : goal.clip_walked-clipped-requires
-clip_walked-clipped-requires c =
-    may_clip c.requires c.walked_arena-s.ensures
+pub walked_arena-arena-requires : goal.walked_arena-arena-requires
+walked_arena-arena-requires c = arranging c.requires
+
+pub clip_walked-requires : goal.clip_walked-requires
+clip_walked-requires c = may_clip c.requires c.walked_arena-arena.ensures.arranged
+
+pub returns-in_err-clipped : goal.returns-in_err-clipped
+returns-in_err-clipped c =
+    rw (thrown c.from_residual.result c.from_residual.ensures) (gives_refusal _ (clipped_spent c.requires c.walked_arena-arena.ensures.arranged _ c.in_err-clipped.ensures))
 
 pub deliver_paths-requires : goal.deliver_paths-requires
-deliver_paths-requires c =
-    readable c.requires c.walked_arena-s.ensures c.clip_walked-clipped.result c.clip_walked-clipped.ensures
+deliver_paths-requires c = readable c.requires c.walked_arena-arena.ensures.arranged c.in_ok-clipped.clipped c.in_ok-clipped.ensures
 
 pub returns : goal.returns
 returns c =
-    gives_same (sym (clipped_is c.requires c.walked_arena-s.ensures c.clip_walked-clipped.result c.clip_walked-clipped.ensures)) c.deliver_paths.ensures
+    gives_same (sym (clipped_is c.requires c.walked_arena-arena.ensures.arranged c.in_ok-clipped.clipped c.in_ok-clipped.ensures)) c.deliver_paths.ensures

@@ -1,4 +1,4 @@
--- `rectclip::regroup::regroup` meets its contract, one law for each way.
+-- `regroup` meets its contract, one law for each way.
 use Rattle.rectclip.proofs.Turns.{groups_joined, groups_split}
 use Rattle.rectclip.proofs.regroup.regroup.Goals as goal
 

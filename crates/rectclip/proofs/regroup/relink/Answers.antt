@@ -1,4 +1,4 @@
--- `rectclip::regroup::relink` meets its contract: the definition's four stores, in their order.
+-- `relink` meets its contract: the definition's four stores, in their order.
 use Rattle.rectclip.proofs.Regrouping.{relinked_larger, relinked_smaller}
 use Rattle.rectclip.proofs.regroup.relink.Goals as goal
 

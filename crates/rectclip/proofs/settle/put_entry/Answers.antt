@@ -1,11 +1,12 @@
--- `rectclip::settle::put_entry` meets its contract, one law for each way.
+-- `put_entry` meets its contract, one law for each way.
+use Rattle.rectclip.specs.Arenas.{mark}
 use Rattle.rectclip.proofs.Settling.{put_clockwise, put_other}
 use Rattle.rectclip.proofs.settle.put_entry.Goals as goal
 
 pub returns-then-clockwise : goal.returns-then-clockwise
 returns-then-clockwise c =
-    put_clockwise c.args.idx c.args.i c.args.j c.args.v c.args.clockwise c.if-clockwise.true c.set_entry.ensures
+    put_clockwise c.args.idx c.args.i c.args.j (mark c.args.v) c.args.clockwise c.if-clockwise.true c.set_entry.ensures
 
 pub returns : goal.returns
 returns c =
-    put_other c.args.idx c.args.i c.args.j c.args.v c.args.clockwise c.if-clockwise.false c.set_entry-2.ensures
+    put_other c.args.idx c.args.i c.args.j (mark c.args.v) c.args.clockwise c.if-clockwise.false c.set_entry-2.ensures

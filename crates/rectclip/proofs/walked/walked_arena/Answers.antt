@@ -3,9 +3,7 @@ use Rattle.rectclip.proofs.WalkedArena.{ring_cornered, arranged}
 use Rattle.rectclip.proofs.walked.walked_arena.Goals as goal
 
 pub enter_round-requires : goal.enter_round-requires
-enter_round-requires c =
-    ring_cornered c.requires c.build_ring-s.ensures
+enter_round-requires c = ring_cornered c.requires c.build_ring-a.ensures.built
 
-pub returns : goal.returns
-returns c =
-    arranged c.requires c.build_ring-s.ensures c.enter_round.ensures
+pub returns-clause-arranged : goal.returns-clause-arranged
+returns-clause-arranged c = arranged c.requires c.build_ring-a.ensures.built c.enter_round.ensures

@@ -1,9 +1,10 @@
--- `replay::replay::keep`: what is kept lies within its list; the measure is what is left of the line.
-use Rattle.std.proofs.Common.{◌-◌, ◌≤◌, length}
+-- `replay::replay::keep`: what is kept lies within its list.
+use Rattle.std.proofs.Common.{◌≤◌}
 use Rattle.replay.proofs.replay.keep.Given as goal
 
-abbrev pub invariant-loop-i : goal.invariant-loop-i
-invariant-loop-i l = l.end ≤ 12288
-
-abbrev pub decreases-loop-i : goal.decreases-loop-i
-decreases-loop-i l = length l.line - l.i
+abbrev pub invariant-loop-b : goal.invariant-loop-b
+invariant-loop-b l = record {
+  can : (goal.iterator-loop-b).can_next l.b-iterator;
+  finite : (goal.iterator-loop-b).is_finite l.b-iterator;
+  within : l.end ≤ 12288;
+}

@@ -1,11 +1,11 @@
--- `text::fields::count_numbers` meets its contract: the loop counts a field at a time. Assumes nothing.
-use Prim.Native.Nat.{◌-◌}
-use lib.ListN.{length}
+-- `text::fields::count_numbers`: the fields so far are numbers.
 use Rattle.text.proofs.FieldList.{CountedTo}
+use Rattle.std.proofs.Common.{length}
 use Rattle.text.proofs.fields.count_numbers.Given as goal
 
-abbrev pub invariant-loop-next : goal.invariant-loop-next
-invariant-loop-next l = CountedTo l.line l.at l.count l.from
-
-abbrev pub decreases-loop-next : goal.decreases-loop-next
-decreases-loop-next l = length l.line - l.from
+abbrev pub invariant-loop-field : goal.invariant-loop-field
+invariant-loop-field l = record {
+  can : (goal.iterator-loop-field).can_next l.field-iterator;
+  finite : (goal.iterator-loop-field).is_finite l.field-iterator;
+  many : CountedTo l.bytes l.count (length l.yielded);
+}

@@ -1,40 +1,35 @@
--- `text::fields::store_numbers` meets its contract: the loop stores a number at a time. Assumes nothing.
-use mathlib.Core.Path.{◌≡◌, sym, ◌∙◌}
+-- `text::fields::store_numbers` meets its contract.
+use Rattle.std.proofs.Common.{eqb, arith, rules, tests}
 use mir.Syntax.{w64}
-use mir.Val.{to_z, of_z}
+use mir.Val.{SFits}
 use mir.Facts.{to_z-of_z}
-use borrow.Author.Rules.{rules}
-use Rattle.text.proofs.FieldList.{Found, store_missing, store_last, store_again, store_full, found}
+use Rattle.std.proofs.lemmas.List.{length_push}
+use Rattle.std.proofs.lemmas.Iterator.Splits.{YieldsList-from_slice_split}
+use Rattle.std.proofs.lemmas.Iterator.Consumers.{YieldsList-from_enumerate, YieldsList-turn, YieldsList-end}
+use Rattle.text.specs.Reading.{fields}
+use Rattle.text.proofs.FieldList.{at_enumerated, enumerated_length, store_none, store_full, store_again, store_end}
 use Rattle.text.proofs.fields.store_numbers.Goals as goal
 
 pub returns-in_default : goal.returns-in_default
 returns-in_default c =
-    store_missing c.loop-i.invariant (sym c.in_default.is ∙ c.number_at-e.ensures)
+    let t = YieldsList-turn (YieldsList-from_enumerate (YieldsList-from_slice_split _ (λ b. eqb b 44) c.args.bytes.now (cc) (cc) (cc) (λ x r q k. search (rules, tests))) (cc)) c.loop-i.yielded _ c.loop-i.yielded_by _ _ (c.in-Some.i, c.in-Some.field) c.in-Some.is c.next.ensures.steps in
+    let p = at_enumerated _ _ _ t.0 t.1 in
+    store_none c.loop-i.invariant.stored p.0 p.2 c.in_default.ensures
 
-pub returns-then-next-line : goal.returns-then-next-line
-returns-then-next-line c =
-    let at_found : Found c.args.line.now c.loop-i.from c.in-Whole.z c.in-Whole.next =
-    found c.args.line.now c.loop-i.from c.loop-i.invariant.within (sym c.in-Whole.is ∙ c.number_at-e.ensures) in
-    let plain_number : to_z w64 (of_z w64 c.in-Whole.z) ≡ c.in-Whole.z =
-    to_z-of_z at_found.fits in
-    rw plain_number (store_last c.loop-i.invariant at_found (search rules))
-
-pub overflow_add-from : goal.overflow_add-from
-overflow_add-from c =
-    let at_found : Found c.args.line.now c.loop-i.from c.in-Whole.z c.in-Whole.next =
-    found c.args.line.now c.loop-i.from c.loop-i.invariant.within (sym c.in-Whole.is ∙ c.number_at-e.ensures) in
-    let f : Found _ _ _ _ = at_found in
-    search rules
+pub returns-then-list-i : goal.returns-then-list-i
+returns-then-list-i c =
+    let t = YieldsList-turn (YieldsList-from_enumerate (YieldsList-from_slice_split _ (λ b. eqb b 44) c.args.bytes.now (cc) (cc) (cc) (λ x r q k. search (rules, tests))) (cc)) c.loop-i.yielded _ c.loop-i.yielded_by _ _ (c.in-Some.i, c.in-Some.field) c.in-Some.is c.next.ensures.steps in
+    let p = at_enumerated _ _ _ t.0 t.1 in
+    store_full c.loop-i.invariant.stored (omega (arith, p.1))
 
 pub loop-i-preserved : goal.loop-i-preserved
 loop-i-preserved c =
-    let at_found : Found c.args.line.now c.loop-i.from c.in-Whole.z c.in-Whole.next =
-    found c.args.line.now c.loop-i.from c.loop-i.invariant.within (sym c.in-Whole.is ∙ c.number_at-e.ensures) in
-    let plain_number : to_z w64 (of_z w64 c.in-Whole.z) ≡ c.in-Whole.z =
-    to_z-of_z at_found.fits in
-    let f : Found _ _ _ _ = at_found in
-    rw plain_number (store_again c.loop-i.invariant at_found (search rules))
+    let f : SFits w64 c.in-Some-number.z = search rules in
+    let t = YieldsList-turn (YieldsList-from_enumerate (YieldsList-from_slice_split _ (λ b. eqb b 44) c.args.bytes.now (cc) (cc) (cc) (λ x r q k. search (rules, tests))) (cc)) c.loop-i.yielded _ c.loop-i.yielded_by _ _ (c.in-Some.i, c.in-Some.field) c.in-Some.is c.next.ensures.steps in
+    let p = at_enumerated _ _ _ t.0 t.1 in
+    record { can = search rules; finite = search rules; stored = rw (to_z-of_z f, length_push c.loop-i.yielded (c.in-Some.i, c.in-Some.field)) (store_again c.loop-i.invariant.stored p.0 p.2 p.1 c.in-Some-number.ensures) }
 
 pub returns : goal.returns
 returns c =
-    store_full c.loop-i.invariant (search rules)
+    let t = YieldsList-end (YieldsList-from_enumerate (YieldsList-from_slice_split _ (λ b. eqb b 44) c.args.bytes.now (cc) (cc) (cc) (λ x r q k. search (rules, tests))) (cc)) c.loop-i.yielded _ c.loop-i.yielded_by _ _ c.in-None.is c.next.ensures.steps in
+    store_end c.loop-i.invariant.stored (omega (arith, t.1, enumerated_length (fields c.args.bytes.now) 0))

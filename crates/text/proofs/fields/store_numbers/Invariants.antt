@@ -1,11 +1,11 @@
--- `text::fields::store_numbers` meets its contract: the loop stores a number at a time. Assumes nothing.
-use Prim.Native.Nat.{◌-◌}
-use lib.ListN.{length}
+-- `text::fields::store_numbers`: the numbers so far are stored.
 use Rattle.text.proofs.FieldList.{StoredTo}
+use Rattle.std.proofs.Common.{length}
 use Rattle.text.proofs.fields.store_numbers.Given as goal
 
 abbrev pub invariant-loop-i : goal.invariant-loop-i
-invariant-loop-i l = StoredTo l.line l.at l.initial.list l.list l.i l.from
-
-abbrev pub decreases-loop-i : goal.decreases-loop-i
-decreases-loop-i l = length l.initial.list - l.i
+invariant-loop-i l = record {
+  can : (goal.iterator-loop-i).can_next l.i-iterator;
+  finite : (goal.iterator-loop-i).is_finite l.i-iterator;
+  stored : StoredTo l.bytes l.initial.list l.list (length l.yielded);
+}

@@ -1,11 +1,6 @@
--- `text::numbers::put_numbers` meets its contract: the loop puts a number at a time. Assumes nothing.
-use Prim.Native.Nat.{◌-◌}
-use lib.ListN.{length}
+-- `text::numbers::put_numbers`: a number at a time.
 use Rattle.text.proofs.Puts.{PutTo}
 use Rattle.text.proofs.numbers.put_numbers.Given as goal
 
-abbrev pub invariant-loop-i : goal.invariant-loop-i
-invariant-loop-i l = PutTo l.list l.initial.out l.at l.out l.next l.i
-
-abbrev pub decreases-loop-i : goal.decreases-loop-i
-decreases-loop-i l = length l.list - l.i
+abbrev pub invariant-loop-z : goal.invariant-loop-z
+invariant-loop-z l = PutTo l.list l.initial.out l.at l.out l.next l.z-index

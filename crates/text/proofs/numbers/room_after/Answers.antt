@@ -1,30 +1,24 @@
--- `text::numbers::room_after` meets its contract: the loop takes each number's bytes off the room. Assumes nothing.
-use borrow.Author.Rules.{rules}
-use mathlib.Core.Path.{◌≡◌, ◌∙◌, ap}
-use lib.ListN.{length, get_or}
-use lib.IntN.{ℤ, pos}
+-- `text::numbers::room_after` meets its contract.
+use Rattle.std.proofs.Common.{get_or, pos, ◌∙◌, arith, rules}
 use mir.Syntax.{w64}
-use mir.Val.{SFits, to_z, of_z}
+use mir.Val.{SFits}
 use mir.Facts.{to_z-of_z}
-use Rattle.text.specs.Decimal.{signed_decimal}
+use Rattle.text.proofs.Widths.{number_width}
 use Rattle.text.proofs.Puts.{room_out, room_again, room_end}
 use Rattle.text.proofs.numbers.room_after.Goals as goal
 
-pub returns-then-left-need : goal.returns-then-left-need
-returns-then-left-need c =
-    let entry : to_z w64 (of_z w64 (get_or c.args.list.now c.loop-i.i (pos 0))) ≡ get_or c.args.list.now c.loop-i.i (pos 0) =
-    let f : SFits w64 (get_or c.args.list.now c.loop-i.i (pos 0)) = search rules in to_z-of_z f in
-    let need_is : c.signed_length-need.result ≡ length (signed_decimal (get_or c.args.list.now c.loop-i.i (pos 0))) =
-    c.signed_length-need.ensures ∙ ap (λ (z : ℤ). length (signed_decimal z)) entry in
-    room_out c.loop-i.invariant (search rules) need_is c.if-left-need.true
+pub overflow_add-signed_length : goal.overflow_add-signed_length
+overflow_add-signed_length c = record { fits = omega (arith, c.signed_length.ensures, number_width) }
 
-pub loop-i-preserved : goal.loop-i-preserved
-loop-i-preserved c =
-    let entry : to_z w64 (of_z w64 (get_or c.args.list.now c.loop-i.i (pos 0))) ≡ get_or c.args.list.now c.loop-i.i (pos 0) =
-    let f : SFits w64 (get_or c.args.list.now c.loop-i.i (pos 0)) = search rules in to_z-of_z f in
-    let need_is : c.signed_length-need.result ≡ length (signed_decimal (get_or c.args.list.now c.loop-i.i (pos 0))) =
-    c.signed_length-need.ensures ∙ ap (λ (z : ℤ). length (signed_decimal z)) entry in
-    room_again c.loop-i.invariant (search rules) need_is (search rules)
+pub returns-in_err-left : goal.returns-in_err-left
+returns-in_err-left c =
+    let f : SFits w64 (get_or c.args.list.now c.loop-z.z-index (pos 0)) = search rules in
+    c.from_residual.ensures ∙ room_out c.loop-z.invariant (search rules) (rw (to_z-of_z f) at c.signed_length.ensures) (omega (arith, c.in_err-left.ensures))
+
+pub loop-z-preserved : goal.loop-z-preserved
+loop-z-preserved c =
+    let f : SFits w64 (get_or c.args.list.now c.loop-z.z-index (pos 0)) = search rules in
+    rw c.in_ok-left.ensures.1 (room_again c.loop-z.invariant (search rules) (rw (to_z-of_z f) at c.signed_length.ensures) (omega (arith, c.in_ok-left.ensures.0)))
 
 pub returns : goal.returns
-returns c = room_end c.loop-i.invariant (search rules)
+returns c = room_end c.loop-z.invariant (search rules)

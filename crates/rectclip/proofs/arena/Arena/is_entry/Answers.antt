@@ -1,0 +1,8 @@
+-- `is_entry` meets its contract: the cell read is the list's entry.
+use mathlib.Core.Path.{◌∙◌, ap}
+use lib.Dec.{eqb}
+use Rattle.rectclip.proofs.Changes.{entry_at}
+use Rattle.rectclip.proofs.arena.Arena.is_entry.Goals as goal
+
+pub returns : goal.returns
+returns c = ap (λ x. eqb x c.args.op) (c.get.ensures ∙ entry_at c.args.self.now c.args.e c.args.j c.requires.0 c.requires.1)

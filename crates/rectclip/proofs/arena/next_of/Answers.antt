@@ -1,8 +1,0 @@
--- `rectclip::arena::next_of` meets its contract: the cell read is the arena's entry.
-use mathlib.Core.Path.{sym, ◌∙◌}
-use Rattle.rectclip.proofs.Arenas.{next_at}
-use Rattle.rectclip.proofs.arena.next_of.Goals as goal
-
-pub returns : goal.returns
-returns c =
-    c.get.ensures ∙ sym (next_at c.args.work.now c.args.s c.args.i c.requires.1)

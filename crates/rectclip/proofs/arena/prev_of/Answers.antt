@@ -1,8 +1,0 @@
--- `rectclip::arena::prev_of` meets its contract: the cell read is the arena's entry.
-use mathlib.Core.Path.{sym, ◌∙◌}
-use Rattle.rectclip.proofs.Arenas.{prev_at}
-use Rattle.rectclip.proofs.arena.prev_of.Goals as goal
-
-pub returns : goal.returns
-returns c =
-    c.get.ensures ∙ sym (prev_at c.args.work.now c.args.s c.args.i c.requires.1)

@@ -1,7 +1,0 @@
--- `rectclip::arena::set_result` meets its contract: the cell stored is the arena's entry.
-use Rattle.rectclip.proofs.Stores.{stored_result}
-use Rattle.rectclip.proofs.arena.set_result.Goals as goal
-
-pub returns : goal.returns
-returns c =
-    rw c.store.ensures (stored_result c.args.work.now c.args.s c.requires.0 c.args.i c.args.v c.requires.1 c.requires.2)
