@@ -33,6 +33,14 @@ def source(path):
     return [re.sub(r"//.*", "", line) for line in Path(path).read_text().split("\n")]
 
 
+def last_line(lines, n, indent):
+    """Of the function that begins at line n: its closing brace, or where a trait's has no body, the semicolon behind its clauses."""
+    head = next(k for k in range(n - 1, len(lines)) if lines[k].endswith(("{", ";")))
+    if lines[head].endswith(";"):
+        return head + 1
+    return next(k for k in range(n, len(lines)) if lines[k] == indent + "}") + 1
+
+
 def functions(crate):
     root = Path(f"crates/{crate}/src")
     top = "lib" if (root / "lib.rt").exists() else "main"
@@ -56,7 +64,7 @@ def functions(crate):
                 if re.search(r"\bfn \w+", line):
                     raise SystemExit(f"{path}:{n}: a function in a form that tools/functions.py does not read")
                 continue
-            last = next(k for k in range(n, len(lines)) if lines[k] == match[1] + "}") + 1
+            last = last_line(lines, n, match[1])
             parts = [home if home != top else "", owner, match[3]]
             name = "::".join(p for p in parts if p)
             text = "\n".join(lines[n - 1 : last])

@@ -1,15 +1,14 @@
 -- What is printed for the lines, one behind another. Assumes nothing.
-use Rattle.std.proofs.Common.{◌≡◌, refl, sym, ◌∙◌, ap, subst, ℕ, ◌+◌, ◌<◌, ◌≤◌, Bool, true, false, List, [], ◌∷◌, ◌++◌, length, take, ℤ, pos, arith}
+use Rattle.std.proofs.Common.{◌≡◌, refl, sym, ◌∙◌, ap, subst, ℕ, ◌+◌, Bool, true, false, List, [], ◌∷◌, ◌++◌, length, take, ltb, ℤ, pos, inl, inr, arith}
 use mathlib.Core.List.{append-nil, append_assoc}
-use borrow.Author.Tests.{lt-ltb, le-ltb}
 use lib.ListN.{drop}
 use lib.Seq.{take_at, take-nil}
 use Rattle.entry.specs.declared.answer.Refusal.{Refusal}
 use Rattle.entry.specs.Answers.{number}
 use Rattle.program.specs.declared.answers.Start.{Start}
-use Rattle.std.specs.Prelude.{Option, None, Some, Ok, Err}
-use Rattle.std.specs.Option.{unwrap_or}
-use Rattle.std.specs.Io.KnownBytes.{Appends, Consumes}
+use Rattle.std.specs.Prelude.{Option, None, Some, Result, Ok, Err, OnOk}
+use Rattle.std.specs.Option.{UnwrapsOrElse}
+use Rattle.std.specs.Io.KnownBytes.{Appends}
 use Rattle.plane.specs.declared.rect.Rect64.{Rect64}
 use Rattle.plane.specs.Limit.{rect_in_limit}
 use Rattle.text.specs.Reading.{Request, unreadable, rectangle, path}
@@ -17,13 +16,13 @@ use Rattle.text.specs.Reading as reading
 use Rattle.text.specs.Asked.{request}
 use Rattle.program.specs.declared.input.Taken.{Taken}
 use Rattle.program.specs.Taken.{before_feed, has_feed, behind_feed, has_bytes, TakesLine}
-use Rattle.program.specs.Printed.{Gives}
 use Rattle.program.specs.Answered.{first_answer, answer, Started, start_refused, start_ready, started, start, First}
 use Rattle.program.proofs.Feeds.{whole_line, none_behind}
-use Rattle.program.proofs.Taken.{gives_none, gives_more, line_bytes, line_none}
-use Rattle.program.proofs.Exact.{front_of}
-use Rattle.clip.specs.Printed.{lines_of, answers_from, following, answers, PrintsBehind, PrintsAll}
-use Rattle.clip.proofs.Lines.{lines_feed, lines_last, no_bytes_left, request_cut}
+use Rattle.program.proofs.Taken.{gives_more, line_bytes, line_none}
+use Rattle.clip.specs.Printed.{answers_from, following, answers, PrintsLine, PrintsBehind, PrintsAll}
+use Rattle.program.specs.Visited.{lines_of, numbered, Visits, VisitsLines}
+use Rattle.program.proofs.Visiting.{lines_feed, lines_last, no_bytes_left}
+use Rattle.clip.proofs.Lines.{request_cut}
 
 -- ---- what a writer holds
 pub holds_none : (held : Option (List ℕ)) → Appends held held []
@@ -36,85 +35,43 @@ holds_more (Some us) None held' xs ys p q = absurd p
 holds_more (Some us) (Some vs) None xs ys p q = absurd q
 holds_more (Some us) (Some vs) (Some ws) xs ys p q = q ∙ ap (λ (l : List ℕ). l ++ ys) p ∙ append_assoc us xs ys
 
--- ---- the answer to the next line
-answer_next : (R : Rect64) (n : ℕ) (l : List ℕ) (ls : List (List ℕ)) → n < 9223372036854775808 → answers_from R n (l ∷ ls) ≡ answer R (pos n) (request false l) ++ answers_from R (n + 1) ls
-answer_next R n l ls h = rw (lt-ltb n 9223372036854775808 h) refl
+-- ---- what was printed for the lines from number n on, of something that has a rectangle and a writer of some name, which stay
+module _ {S N : Type 0} (E : Type 0) (name : S → N) (rect : S → Rect64) (held : S → Option (List ℕ)) where
+  abbrev pub Gives : S → ℤ → List ℕ → Result (Unit {0}) E → S → Type 0
+  Gives s n l r t = OnOk r ((name t ≡ name s) × PrintsLine (rect s) (rect t) (held s) (held t) n l)
 
-answers_out : (R : Rect64) (n : ℕ) (ls : List (List ℕ)) → 9223372036854775808 ≤ n → answers_from R n ls ≡ []
-answers_out R n [] h = refl
-answers_out R n (l ∷ ls) h = rw (le-ltb n 9223372036854775808 h) refl
+  pub printed_lines : (n : ℕ) (ls : List (List ℕ)) (s t : S) → Visits Gives (numbered 4097 n ls) s (Ok tt) t → (name t ≡ name s) × Appends (held s) (held t) (answers_from (rect s) n ls)
+  printed_lines n [] s t v = (ap name v.1, subst (λ (u : S). Appends (held s) (held u) []) (sym v.1) (holds_none (held s)))
+  printed_lines n (l ∷ ls) s t v = go (ltb n 9223372036854775808) refl (printed_lines (n + 1) ls)
+    where
+      go : (b : Bool) → ltb n 9223372036854775808 ≡ b → ((s t : S) → Visits Gives (numbered 4097 (n + 1) ls) s (Ok tt) t → (name t ≡ name s) × Appends (held s) (held t) (answers_from (rect s) (n + 1) ls))
+          → (name t ≡ name s) × Appends (held s) (held t) (answers_from (rect s) n (l ∷ ls))
+      go true q more =
+          let w : Visits Gives ((pos n, take 4097 l) ∷ numbered 4097 (n + 1) ls) s (Ok tt) t = rw q at v in
+          elim w [
+            | inl (u, g, rest) ↦
+                let m = more u t rest in
+                let first = answer (rect s) (pos n) (request false l) in
+                let cut : answer (rect s) (pos n) (request false (take 4097 l)) ≡ first = ap (answer (rect s) (pos n)) (request_cut false l) in (
+                  m.0 ∙ g.0,
+                  rw q (holds_more (held s) (held u) (held t) first (answers_from (rect s) (n + 1) ls) (subst (λ (k : List ℕ). Appends (held s) (held u) k) cut g.1.printed)
+                      (subst (λ (R : Rect64). Appends (held u) (held t) (answers_from R (n + 1) ls)) g.1.same m.1)),
+                )
+            | inr (e, g, f) ↦ absurd (let z : ◌≡◌ {A = Result (Unit {0}) E} (Ok tt) (Err e) = f in cc)
+          ]
+      go false q more =
+          let w : (◌≡◌ {A = Result (Unit {0}) E} (Ok tt) (Ok tt)) × (t ≡ s) = rw q at v in
+          (ap name w.1, rw q (subst (λ (u : S). Appends (held s) (held u) []) (sym w.1) (holds_none (held s))))
 
--- ---- so far: what came, what was printed, and what is still to be printed, whatever comes
-pub record PrintedTo (R : Rect64) (hand₀ : List ℕ) (ahead₀ ahead held₀ held : Option (List ℕ)) (hand : List ℕ) (n : ℕ) : Type 0 where
-  pub came : List ℕ
-  pub out : List ℕ
-  pub given : Consumes ahead₀ ahead came
-  pub written : Appends held₀ held out
-  pub goal : (more : List ℕ) → answers_from R 2 (lines_of (hand₀ ++ (came ++ more))) ≡ out ++ answers_from R n (lines_of (hand ++ more))
-
-pub printed_start : {R : Rect64} {hand : List ℕ} {ahead held : Option (List ℕ)} → PrintedTo R hand ahead ahead held held hand 2
-printed_start {ahead = ahead} {held = held} = record { came = []; out = []; given = gives_none ahead; written = holds_none held; goal = λ more. refl }
-
-module _ {R : Rect64} {hand₀ : List ℕ} {ahead₀ ahead held₀ held : Option (List ℕ)} {hand : List ℕ} {n : ℕ} (s : PrintedTo R hand₀ ahead₀ ahead held₀ held hand n) where
-  -- with no more lines
-  all_printed : {ahead' held' : Option (List ℕ)} (more out : List ℕ) → Consumes ahead ahead' more → Appends held held' out → answers_from R n (lines_of (hand ++ more)) ≡ out → PrintsBehind R hand₀ ahead₀ ahead' held₀ held'
-  all_printed {ahead'} {held'} more out g w e = record {
-    came = s.came ++ more;
-    given = gives_more ahead₀ ahead ahead' s.came more s.given g;
-    printed = subst (λ (l : List ℕ). Appends held₀ held' l) (sym (s.goal more ∙ ap (λ (l : List ℕ). s.out ++ l) e)) (holds_more held₀ held held' s.out out s.written w);
-  }
-
-  -- as many as there are numbers
-  pub printed_many : 9223372036854775808 ≤ n → PrintsBehind R hand₀ ahead₀ ahead held₀ held
-  printed_many h = all_printed [] [] (gives_none ahead) (holds_none held) (answers_out R n (lines_of (hand ++ [])) h)
-
-module _ {R : Rect64} {hand₀ : List ℕ} {ahead₀ ahead held₀ held : Option (List ℕ)} {hand : List ℕ} {n : ℕ} (s : PrintedTo R hand₀ ahead₀ ahead held₀ held hand n)
-    {ahead' : Option (List ℕ)} {line : List ℕ} {r : Option Taken} {hand' line' : List ℕ} (t : TakesLine ahead ahead' hand line r hand' line') where
-  -- no line is left
-  pub printed_end : r ≡ None → PrintsBehind R hand₀ ahead₀ ahead' held₀ held
-  printed_end e = all_printed s t.came [] t.given (holds_none held) (ap (λ (l : List ℕ). answers_from R n (lines_of l)) (no_bytes_left (hand ++ t.came) (line_none t e)))
-
-  module _ {l : Taken} (some : r ≡ Some l) where
-    -- what was written is the answer to the line
-    answered : length line ≡ 4097 → {x : ℤ} → x ≡ pos n → {out : List ℕ} {k : ℕ} {out' : List ℕ} → Gives (answer R x (request false (take l.count line'))) out k out'
-        → take k out' ≡ answer R (pos n) (request false (before_feed (hand ++ t.came)))
-    answered long same g =
-        let bytes = before_feed (hand ++ t.came) in
-        let asked : request false (take l.count line') ≡ request false bytes =
-        ap (request false) ((line_bytes t some).0 ∙ ap (λ (m : ℕ). take m bytes) long) ∙ request_cut false bytes in
-        sym (front_of g) ∙ (λ i. answer R (same i) (asked i))
-
-    module _ {held' : Option (List ℕ)} (long : length line ≡ 4097) (few : n < 9223372036854775808) {x : ℤ} (same : x ≡ pos n) {out : List ℕ} {k : ℕ} {out' : List ℕ}
-        (g : Gives (answer R x (request false (take l.count line'))) out k out') (w : Appends held held' (take k out')) where
-      -- the last line
-      pub printed_last : l.ended ≡ false → PrintsBehind R hand₀ ahead₀ ahead' held₀ held'
-      printed_last e =
-          let none : has_feed (hand ++ t.came) ≡ false = sym (line_bytes t some).1 ∙ e in
-          let bytes = before_feed (hand ++ t.came) in
-          let one : lines_of (hand ++ t.came) ≡ bytes ∷ [] = lines_last (hand ++ t.came) none (line_bytes t some).2 ∙ ap (λ (l : List ℕ). l ∷ []) (sym (whole_line (hand ++ t.came) none)) in
-          all_printed s t.came (answer R (pos n) (request false bytes)) t.given (subst (λ (l : List ℕ). Appends held held' l) (answered long same g) w)
-          (ap (answers_from R n) one ∙ answer_next R n bytes [] few ∙ append-nil (answer R (pos n) (request false bytes)))
-
-      -- and another
-      pub printed_line : l.ended ≡ true → PrintedTo R hand₀ ahead₀ ahead' held₀ held' hand' (n + 1)
-      printed_line e =
-          let feed : has_feed (hand ++ t.came) ≡ true = sym (line_bytes t some).1 ∙ e in
-          let bytes = before_feed (hand ++ t.came) in
-          let one = answer R (pos n) (request false bytes) in
-          record {
-            came = s.came ++ t.came;
-            out = s.out ++ one;
-            given = gives_more ahead₀ ahead ahead' s.came t.came s.given t.given;
-            written = holds_more held₀ held held' s.out one s.written (subst (λ (l : List ℕ). Appends held held' l) (answered long same g) w);
-            goal = λ more.
-                let rest = lines_of (hand' ++ more) in
-                let first : lines_of (hand ++ (t.came ++ more)) ≡ bytes ∷ rest =
-                ap lines_of (sym (append_assoc hand t.came more)) ∙ lines_feed (hand ++ t.came) more feed ∙ ap (λ (l : List ℕ). bytes ∷ lines_of (l ++ more)) (sym t.left) in
-                ap (λ (l : List ℕ). answers_from R 2 (lines_of (hand₀ ++ l))) (append_assoc s.came t.came more)
-                ∙ s.goal (t.came ++ more)
-                ∙ ap (λ (l : List ℕ). s.out ++ l) (ap (answers_from R n) first ∙ answer_next R n bytes rest few)
-                ∙ sym (append_assoc s.out one (answers_from R (n + 1) rest));
-          }
+  pub printed_behind : {ahead ahead' : Option (List ℕ)} {hand : List ℕ} {s t : S} {r : Result (Unit {0}) E} {held' : Option (List ℕ)} → VisitsLines Gives 4097 2 ahead ahead' hand s r t → (name t ≡ name s → held' ≡ held t)
+      → OnOk r (PrintsBehind (rect s) hand ahead ahead' (held s) held')
+  printed_behind {ahead} {ahead'} {hand} {s} {t} {r} {held'} v same = go r refl
+    where
+      go : (x : Result (Unit {0}) E) → r ≡ x → OnOk x (PrintsBehind (rect s) hand ahead ahead' (held s) held')
+      go (Err e) q = tt
+      go (Ok u) q =
+          let p = printed_lines 2 (lines_of (hand ++ v.came)) s t (rw q at v.visited) in
+          record { came = v.came; given = v.given; printed = subst (λ (h : Option (List ℕ)). Appends (held s) h (answers_from (rect s) 2 (lines_of (hand ++ v.came)))) (sym (same p.0)) p.1 }
 
 -- ---- line 1
 -- what it starts is what follows, and as many bytes are written as its answer has
@@ -162,7 +119,7 @@ answers_all bytes = go (has_feed bytes) refl (has_bytes bytes) refl
 pub from_nothing : {ahead ahead' : Option (List ℕ)} {hand line : List ℕ} {o : Option Taken} {hand' line' : List ℕ} → hand ≡ [] → TakesLine ahead ahead' hand line o hand' line' → TakesLine ahead ahead' [] line o hand' line'
 from_nothing {ahead} {ahead'} {hand} {line} {o} {hand'} {line'} e t = subst (λ (h : List ℕ). TakesLine ahead ahead' h line o hand' line') e t
 
-module _ {ahead ahead' : Option (List ℕ)} {line : List ℕ} {o : Option Taken} {hand' line' : List ℕ} (t : TakesLine ahead ahead' [] line o hand' line') {r : Taken} (first : r ≡ unwrap_or o (record { count = 0; ended = false }))
+module _ {ahead ahead' : Option (List ℕ)} {line : List ℕ} {o : Option Taken} {hand' line' : List ℕ} (t : TakesLine ahead ahead' [] line o hand' line') (r : Taken) (first : UnwrapsOrElse o (λ t. (t.count ≡ 0) × (t.ended ≡ false)) r)
     (long : length line ≡ 4097) {out : List ℕ} {s : Start} {out' : List ℕ} (f : First (request true (take r.count line')) out s out') where
   -- the line, or an empty one where there is none
   taken : (take r.count line' ≡ take (length line) (before_feed t.came)) × (r.ended ≡ has_feed t.came)
@@ -172,8 +129,8 @@ module _ {ahead ahead' : Option (List ℕ)} {line : List ℕ} {o : Option Taken}
       none [] e = (sym (take-nil (length line)), refl)
       none (b ∷ bytes) e = absurd (let z : ◌≡◌ {A = ℕ} 0 1 = cc in omega arith)
 
-      go : (x : Option Taken) → o ≡ x → r ≡ unwrap_or x (record { count = 0; ended = false }) → (take r.count line' ≡ take (length line) (before_feed t.came)) × (r.ended ≡ has_feed t.came)
-      go None e q = let n = none t.came (line_none t e) in (ap (λ (l : Taken). take l.count line') q ∙ n.0, ap (λ (l : Taken). l.ended) q ∙ n.1)
+      go : (x : Option Taken) → o ≡ x → UnwrapsOrElse x (λ t. (t.count ≡ 0) × (t.ended ≡ false)) r → (take r.count line' ≡ take (length line) (before_feed t.came)) × (r.ended ≡ has_feed t.came)
+      go None e q = let n = none t.came (line_none t e) in (ap (λ (k : ℕ). take k line') q.0 ∙ n.0, q.1 ∙ n.1)
       go (Some l) e q = let m = line_bytes t e in (ap (λ (l : Taken). take l.count line') q ∙ m.0, ap (λ (l : Taken). l.ended) q ∙ m.1)
 
   one : request true (take r.count line') ≡ request true (before_feed t.came)

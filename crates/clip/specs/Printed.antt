@@ -1,21 +1,14 @@
 -- What the clip program prints for the bytes that it reads, where no write fails: the answer to line 1 and, under its rectangle, those to the lines behind
 -- it, one behind another, of a reader and a writer that say which bytes they have and hold. Standard input and output do not, and of them nothing is said
 -- here. Nor is it said that the input is read to its end.
-use Rattle.std.specs.Prelude.{if◌then◌else◌, true, false, Option, List, [], ◌∷◌, ◌++◌, ℕ, ◌+◌, eqb, ltb, pos}
+use Rattle.std.specs.Prelude.{◌≡◌, if◌then◌else◌, true, false, Option, List, [], ◌∷◌, ◌++◌, ℕ, ◌+◌, ltb, ℤ, pos}
 use Rattle.std.specs.Io.KnownBytes.{Appends, Consumes}
 use Rattle.plane.specs.Limit.{rect_in_limit}
 use Rattle.plane.specs.declared.rect.Rect64.{Rect64}
-use Rattle.std.specs.List.{onto_first}
 use Rattle.text.specs.Reading.{Request, unreadable, rectangle, path}
 use Rattle.text.specs.Asked.{request}
+use Rattle.program.specs.Visited.{lines_of}
 use Rattle.program.specs.Answered.{first_answer, answer}
-
--- 'Lines end with a line feed, which the last may lack'
-abbrev pub lines_of : List ℕ → List (List ℕ)
-lines_of [] = []
-lines_of (b ∷ bs) =
-    let rest = lines_of bs in
-    if eqb b 10 then [] ∷ rest else onto_first b rest
 
 -- the answers to the lines from number n on; a line's number is one of 64 signed bits, which no run uses up
 abbrev pub answers_from : Rect64 → ℕ → List (List ℕ) → List ℕ
@@ -46,3 +39,8 @@ pub record PrintsAll (ahead ahead' held held' : Option (List ℕ)) : Type 0 wher
   pub came : List ℕ
   pub given : Consumes ahead ahead' came
   pub printed : Appends held held' (answers (lines_of came))
+
+-- of a line behind line 1, by its number and bytes; the rectangle stays
+pub record PrintsLine (rect rect' : Rect64) (held held' : Option (List ℕ)) (line : ℤ) (bytes : List ℕ) : Type 0 where
+  pub same : rect' ≡ rect
+  pub printed : Appends held held' (answer rect line (request false bytes))

@@ -18,12 +18,12 @@ pub enum Refusal {
     UnreadableLine = 12,
 }
 
-impl Refusal {
-    // Document 01's number; a method and no `From`, since `u32::from(why)` would not say which number it is.
-    pub fn number(self) -> u32
-        ensures { result ≡ number self }
+// Document 01's number.
+impl From<Refusal> for u32 {
+    fn from(why: Refusal) -> u32
+        ensures { result ≡ number why }
     {
-        self as u32
+        why as u32
     }
 }
 
@@ -44,6 +44,6 @@ pub fn value(answer: Result<(), Refusal>) -> u32
 {
     match answer {
         Ok(()) => 0,
-        Err(why) => why.number(),
+        Err(why) => u32::from(why),
     }
 }

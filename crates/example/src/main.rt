@@ -23,15 +23,13 @@ fn main(rt: HostRuntime) -> io::Result<()> {
         &mut coordinates,
         &mut lengths,
     );
-    match answer {
+    let written = match answer {
         Ok(counts) => {
             let part = filled(&mut coordinates, counts.points as usize);
-            let n = write_path(true, 1, part, &mut line).unwrap_or(0);
-            rt.write_all(&line[..n])
+            write_path(true, 1, part, &mut line)
         }
-        Err(why) => {
-            let n = write_refusal(1, why.number() as i64, &mut line).unwrap_or(0);
-            rt.write_all(&line[..n])
-        }
-    }
+        Err(why) => write_refusal(1, i64::from(u32::from(why)), &mut line),
+    };
+    let n = written.ok_or(io::ErrorKind::WriteZero)?;
+    rt.write_all(&line[..n])
 }

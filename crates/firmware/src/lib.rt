@@ -29,7 +29,7 @@ fn check_path(bytes: &[u8]) -> Result<(), Refusal>
     Ok(())
 }
 
-// A result as bytes, or refusal 11 where a list is too short.
+// A result as bytes, or refusal 11 where a list is too short. Here and below the lists stay apart, as C lends them.
 fn send(
     c: Counts,
     results: &[i64],

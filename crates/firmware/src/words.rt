@@ -22,19 +22,17 @@ impl Word for u32 {
     }
 }
 
-// A signed number as 32 bits; `as` would have to be proved to fit, and only the numbers of a result do.
+// A signed number as 32 bits. Not the low bytes that `to_le_bytes` gives: below -4,294,967,296 the definition has 0.
 impl Word for i64 {
     ghost low = { bits };
 
     fn low(self) -> u64 {
+        let size = self.unsigned_abs();
         if self < 0 {
-            let below = (-(self + 1)) as u64;
-            if below < 4294967296 {
-                return 4294967295 - below;
-            }
-            return 0;
+            4294967296u64.saturating_sub(size)
+        } else {
+            size
         }
-        self as u64
     }
 }
 
@@ -54,7 +52,7 @@ fn put_word(n: u64, out: &mut [u8], at: usize)
     out[at..at + 4].copy_from_slice(&n.to_le_bytes()[..4]);
 }
 
-// The numbers of a path's bytes.
+// The numbers of a path's bytes. By positions: at the return no fact says what was written to a list that is zipped with them.
 pub(crate) fn read_words(bytes: &[u8], path: &mut [i64])
     requires { length bytes.now / 4 ≤ length path.old }
     ensures { path.new ≡ filled (read_words bytes.now) path.old }
@@ -69,7 +67,7 @@ pub(crate) fn put_words<T: Word + Copy>(items: &[T], out: &mut [u8])
     requires { 4 * length items.now ≤ length out.old }
     ensures { out.new ≡ filled (words (map T.low items.now)) out.old }
 {
-    for i in 0..items.len() {
-        put_word(items[i].low(), out, 4 * i);
+    for (i, item) in items.iter().enumerate() {
+        put_word(item.low(), out, 4 * i);
     }
 }

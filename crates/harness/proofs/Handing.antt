@@ -1,8 +1,8 @@
 -- What the exported functions hand over, from what the clippers promise. Assumes nothing.
 use mathlib.Core.Path.{◌≡◌, refl, sym, ◌∙◌, ap, subst}
 use mathlib.Core.Bool.{Bool, true, false, ◌||◌}
-use mathlib.Core.List.{List, [], ◌∷◌, ◌++◌, map}
-use Prim.Native.Nat.{ℕ, suc, ◌<◌, ◌≤◌}
+use mathlib.Core.List.{List, [], ◌∷◌, map}
+use Prim.Native.Nat.{ℕ, suc, ◌≤◌}
 use native.Mathlib.Omega.{arith}
 use lib.ListN.{length, get_or, set}
 use lib.IntN.{ℤ}
@@ -18,7 +18,7 @@ use Rattle.entry.specs.declared.answer.Counts.{Counts}
 use Rattle.entry.specs.Answers.{number, outcome}
 use Rattle.entry.proofs.Sheets.{number_not_zero}
 use Rattle.rectclip.specs.Promises.{lent, Clips, Returned, ReturnedBy}
-use Rattle.harness.specs.Values.{Exported, counted_by, counted, uncounted_value, Counted, Hands, ReturnedAt}
+use Rattle.harness.specs.Values.{Exported, counted_by, counted, uncounted_value, Uncounted, Counted, Hands, ReturnedAt}
 use Rattle.theorems.proofs.Tests.{neither}
 
 -- three numbers stored at the front fill it
@@ -53,7 +53,7 @@ abbrev pub bare : Lent → Lent
 bare l = record { coordinates = []; lengths = []; store = l.store; work = l.work }
 
 -- what is left of a call with no room for a result: its value, and the two working lists; the other lists as they came
-pub record Uncounted (e : Exported) (l : Lent) (counts : List ℕ) (a : After) : Type 0 where
+record Bare (e : Exported) (l : Lent) (counts : List ℕ) (a : After) : Type 0 where
   pub value : e.value ≡ uncounted_value a.answer
   pub coordinates : e.lists.coordinates ≡ l.coordinates
   pub lengths : e.lists.lengths ≡ l.lengths
@@ -65,7 +65,7 @@ pub record Uncounted (e : Exported) (l : Lent) (counts : List ℕ) (a : After) :
 
 module _ (l : Lent) (counts : List ℕ) (h : ltb (length counts) 3 ≡ true) where
   -- a drawing that is handed out, or refused for want of room
-  uncounted_drawn : (d : Drawing) → Uncounted (counted l counts (delivered l d)) l counts (delivered (bare l) d)
+  uncounted_drawn : (d : Drawing) → Bare (counted l counts (delivered l d)) l counts (delivered (bare l) d)
   unfolding counted delivered
   uncounted_drawn d =
       go (ltb (length l.coordinates) (length (coordinates_of (joined d.0))) || ltb (length l.lengths) (length (map length d.0))) refl
@@ -73,7 +73,7 @@ module _ (l : Lent) (counts : List ℕ) (h : ltb (length counts) 3 ≡ true) whe
     where
       go : (s : Bool) → (ltb (length l.coordinates) (length (coordinates_of (joined d.0))) || ltb (length l.lengths) (length (map length d.0))) ≡ s
           → (t : Bool) → (ltb 0 (length (coordinates_of (joined d.0))) || ltb 0 (length (map length d.0))) ≡ t
-          → Uncounted (counted l counts (delivered l d)) l counts (delivered (bare l) d)
+          → Bare (counted l counts (delivered l d)) l counts (delivered (bare l) d)
       go true e true f = rw (e, f) (record { value = refl; coordinates = refl; lengths = refl; store = refl; work = refl; numbers = refl; no_coordinates = refl; no_lengths = refl })
       go true e false f =
           let p = neither (ltb 0 (length (coordinates_of (joined d.0)))) (ltb 0 (length (map length d.0))) f in
@@ -83,48 +83,48 @@ module _ (l : Lent) (counts : List ℕ) (h : ltb (length counts) 3 ≡ true) whe
           let p = neither (ltb 0 (length (coordinates_of (joined d.0)))) (ltb 0 (length (map length d.0))) f in
           rw (e, f, h) (record { value = refl; coordinates = refl; lengths = refl; store = refl; work = refl; numbers = refl; no_coordinates = ap (λ c. filled c []) (nothing (coordinates_of (joined d.0)) p.0); no_lengths = ap (λ c. filled c []) (nothing (map length d.0) p.1) })
 
-  uncounted_is : (early : ℕ) (drawing : Try Drawing) → Uncounted (counted l counts (answered l early drawing)) l counts (answered (bare l) early drawing)
+  uncounted_is : (early : ℕ) (drawing : Try Drawing) → Bare (counted l counts (answered l early drawing)) l counts (answered (bare l) early drawing)
   unfolding counted answered
   uncounted_is early drawing = go (eqb early 0) refl drawing
     where
-      go : (b : Bool) → eqb early 0 ≡ b → (drawing : Try Drawing) → Uncounted (counted l counts (answered l early drawing)) l counts (answered (bare l) early drawing)
+      go : (b : Bool) → eqb early 0 ≡ b → (drawing : Try Drawing) → Bare (counted l counts (answered l early drawing)) l counts (answered (bare l) early drawing)
       go true e (refuse n) = rw e (record { value = refl; coordinates = refl; lengths = refl; store = refl; work = refl; numbers = refl; no_coordinates = refl; no_lengths = refl })
       go true e (ok d) = rw e (uncounted_drawn d)
       go false e drawing = rw e (record { value = refl; coordinates = refl; lengths = refl; store = refl; work = refl; numbers = refl; no_coordinates = refl; no_lengths = refl })
 
   -- the clipper of either kind
-  uncounted_clip : (closed : Bool) (A : ℕ) (R : Rect64) (path : List ℤ) → Uncounted (counted l counts (clip_path closed A R path l)) l counts (clip_path closed A R path (bare l))
+  uncounted_clip : (closed : Bool) (A : ℕ) (R : Rect64) (path : List ℤ) → Bare (counted l counts (clip_path closed A R path l)) l counts (clip_path closed A R path (bare l))
   unfolding clip_closed clip_open
   uncounted_clip true A R path = uncounted_is _ _
   uncounted_clip false A R path = uncounted_is _ _
 
--- what a clipper that was lent no room for a result leaves, handed over
-pub hands_uncounted : (closed : Bool) (A : ℕ) (R : Rect64) (path : List ℤ) (l : Lent) (counts : List ℕ) → length counts < 3 → {after : Lent} {r : Result Counts Refusal} {v : ℕ}
-    → Clips (clip_path closed A R path (bare l)) r after → v ≡ uncounted_value (outcome r)
-    → Hands (counted l counts (clip_path closed A R path l)) v (lent (after.coordinates ++ l.coordinates) (after.lengths ++ l.lengths) after.store after.work) counts
-hands_uncounted closed A R path l counts h k n =
-    let u = uncounted_clip l counts (lt-ltb _ _ h) closed A R path in
-    record {
-      value = n ∙ ap uncounted_value k.answer ∙ sym u.value;
-      coordinates = ap (λ x. x ++ l.coordinates) (k.coordinates ∙ u.no_coordinates) ∙ sym u.coordinates;
-      lengths = ap (λ x. x ++ l.lengths) (k.lengths ∙ u.no_lengths) ∙ sym u.lengths;
-      store = k.store ∙ sym u.store;
-      work = k.work ∙ sym u.work;
-      counts = sym u.numbers;
-    }
-
--- ---- the paths that were returned
 -- a refusal has no value 0
 refused_value : (why : Refusal) {v : ℕ} → v ≡ number why → v ≡ 0 → ⊥
 refused_value why e z = eqb-false (number why) 0 (number_not_zero why) (sym e ∙ z)
 
+refused_uncounted : (r : Result Counts Refusal) {v : ℕ} → v ≡ uncounted_value (outcome r) → v ≡ 0 → ⊥
+refused_uncounted (Ok c) e z = omega arith
+refused_uncounted (Err why) e z = refused_value why e z
+
+-- what a clipper that was lent no room for a result leaves, handed over
+pub hands_uncounted : (closed : Bool) (A : ℕ) (R : Rect64) (path : List ℤ) {store : List ℤ} {work : List ℕ} {after : Lent} {r : Result Counts Refusal} {v : ℕ}
+    → Clips (clip_path closed A R path (lent [] [] store work)) r after → v ≡ uncounted_value (outcome r) → Uncounted closed A R path store work v after.store after.work
+hands_uncounted closed A R path {store} {work} {r = r} k n = record {
+  hands = λ coordinates lengths counts h.
+      let u = uncounted_clip (lent coordinates lengths store work) counts (lt-ltb _ _ h) closed A R path in
+      record {
+        value = n ∙ ap uncounted_value k.answer ∙ sym u.value;
+        coordinates = sym u.coordinates;
+        lengths = sym u.lengths;
+        store = k.store ∙ sym u.store;
+        work = k.work ∙ sym u.work;
+        counts = sym u.numbers;
+      };
+  none = refused_uncounted r n;
+}
+
+-- ---- the paths that were returned
 module _ (closed : Bool) (R : Rect64) (path coordinates : List ℤ) (lengths : List ℕ) where
-  -- with room for the counts
   pub returned_counted : (counts : List ℕ) (r : Result Counts Refusal) {v : ℕ} {counts' : List ℕ} → ReturnedBy closed R path r coordinates lengths → Counted (outcome r) counts v counts' → ReturnedAt closed R path v coordinates lengths counts'
   returned_counted counts (Ok c) h k z = subst (λ (l : List ℕ). Returned closed R path (get_or l 0 0) (get_or l 1 0) coordinates lengths) (sym k.list) (h c refl)
   returned_counted counts (Err why) h k z = absurd (refused_value why k.value z)
-
-  -- without: no result
-  pub returned_uncounted : (counts : List ℕ) (r : Result Counts Refusal) {v : ℕ} → v ≡ uncounted_value (outcome r) → ReturnedAt closed R path v coordinates lengths counts
-  returned_uncounted counts (Ok c) e z = absurd (omega arith)
-  returned_uncounted counts (Err why) e z = absurd (refused_value why e z)

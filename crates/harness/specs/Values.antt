@@ -1,8 +1,8 @@
 -- The value of an exported function: 0 or the refusal's number, with the counts of a result in a list of their own. `present`: 0, 1, or 100 and the number.
-use Rattle.std.specs.Prelude.{◌≡◌, List, [], ◌∷◌, Bool, ℕ, ◌+◌, length, get_or, ltb, ℤ, if◌then◌else◌}
+use Rattle.std.specs.Prelude.{◌≡◌, List, [], ◌∷◌, Bool, ℕ, ◌+◌, ◌<◌, length, get_or, ltb, ℤ, if◌then◌else◌}
 use Rattle.plane.specs.declared.rect.Rect64.{Rect64}
-use Rattle.reference.specs.Entry.{Outcome, refused, drawn, Lent, After, filled, cleared, Presence, unknown, yes, no}
-use Rattle.rectclip.specs.Promises.{Returned}
+use Rattle.reference.specs.Entry.{Outcome, refused, drawn, Lent, After, filled, cleared, clip_path, Presence, unknown, yes, no}
+use Rattle.rectclip.specs.Promises.{lent, Returned}
 
 abbrev pub presence_value : Presence → ℕ
 presence_value (unknown n) = 100 + n
@@ -50,6 +50,12 @@ counted_value (drawn paths points turns) = 0
 abbrev pub counted_list : Outcome → List ℕ → List ℕ
 counted_list (refused n) counts = counts
 counted_list (drawn paths points turns) counts = filled (paths ∷ points ∷ turns ∷ []) counts
+
+-- a call with counts shorter than three, whatever the lists of the result: its value, and the two working lists
+pub record Uncounted (closed : Bool) (A : ℕ) (R : Rect64) (path store : List ℤ) (work : List ℕ) (v : ℕ) (store' : List ℤ) (work' : List ℕ) : Type 0 where
+  pub hands : (coordinates : List ℤ) (lengths counts : List ℕ) → length counts < 3
+      → Hands (counted (lent coordinates lengths store work) counts (clip_path closed A R path (lent coordinates lengths store work))) v (lent coordinates lengths store' work') counts
+  pub none : v ≡ 0 → ⊥
 
 pub record Counted (o : Outcome) (before : List ℕ) (r : ℕ) (after : List ℕ) : Type 0 where
   pub value : r ≡ counted_value o

@@ -1,4 +1,4 @@
-// The clippers as a static library over plain numbers and lists of any length: for measuring and comparing only.
+// The clippers as a static library over plain numbers and lists of any length, apart, as C hands them: for measuring and comparing only.
 #![tactic(auto)]
 
 ghost use Rattle.std.specs.Prelude.{◌≡◌, true, false};
@@ -6,7 +6,7 @@ ghost use Rattle.plane.specs.Rectangle.{rect};
 ghost use Rattle.reference.specs.Entry.{clip_path, is_present};
 ghost use Rattle.rectclip.specs.Promises.{lent};
 ghost use Rattle.entry.specs.Answers.{value};
-ghost use Rattle.harness.specs.Values.{presence_value, counted, Hands, ReturnedAt};
+ghost use Rattle.harness.specs.Values.{presence_value, counted, Uncounted, Hands, ReturnedAt};
 
 use entry::answer::{Refusal, value};
 use entry::present::present;
@@ -20,7 +20,7 @@ pub extern "C" fn harness_present(left: i64, top: i64, right: i64, bottom: i64, 
 {
     match present(Rect64::new(left, top, right, bottom), path) {
         Ok(present) => u32::from(present),
-        Err(why) => 100 + why.number(),
+        Err(why) => 100 + u32::from(why),
     }
 }
 
@@ -87,7 +87,7 @@ pub extern "C" fn harness_rect_clip64(
     ))
 }
 
-// On a result the first three counts are paths, points and turns. Where they have no place, the clipper is lent no room for a result.
+// On a result the first three counts are paths, points and turns.
 fn clip_counted(
     closed: bool,
     allowance: u32,
@@ -103,17 +103,7 @@ fn clip_counted(
     ensures returned { ReturnedAt closed rect path.now (value result) coordinates.new lengths.new counts.new }
 {
     if counts.len() < 3 {
-        clip(
-            closed,
-            allowance,
-            rect,
-            path,
-            store,
-            work,
-            &mut coordinates[..0],
-            &mut lengths[..0],
-        )?;
-        return Err(Refusal::ListsTooShort);
+        return clip_uncounted(closed, allowance, rect, path, store, work);
     }
     let drawn = clip(
         closed,
@@ -129,4 +119,19 @@ fn clip_counted(
     counts[1] = drawn.points;
     counts[2] = drawn.turns;
     Ok(())
+}
+
+// Where the counts have no place, the clipper is lent no room for a result.
+fn clip_uncounted(
+    closed: bool,
+    allowance: u32,
+    rect: Rect64,
+    path: &[i64],
+    store: &mut [i64],
+    work: &mut [u32],
+) -> Result<(), Refusal>
+    ensures { Uncounted closed allowance rect path.now store.old work.old (value result) store.new work.new }
+{
+    clip(closed, allowance, rect, path, store, work, &mut [], &mut [])?;
+    Err(Refusal::ListsTooShort)
 }

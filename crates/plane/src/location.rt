@@ -5,11 +5,11 @@ ghost use Rattle.plane.specs.Locations.{side_number, side, is_inside, opposite, 
 
 #[derive(Clone, Copy, PartialEq, Eq)]
 pub enum Location {
-    Left,
-    Top,
-    Right,
-    Bottom,
-    Inside,
+    Left = 0,
+    Top = 1,
+    Right = 2,
+    Bottom = 3,
+    Inside = 4,
 }
 
 // What `get_location` answers: the location, and whether the point is off the edges. No enum: callers read the location whichever the flag is.
@@ -48,18 +48,12 @@ impl From<Location> for u32 {
     fn from(loc: Location) -> u32
         ensures { result ≡ side_number loc }
     {
-        match loc {
-            Location::Left => Location::LEFT,
-            Location::Top => Location::TOP,
-            Location::Right => Location::RIGHT,
-            Location::Bottom => Location::BOTTOM,
-            Location::Inside => Location::INSIDE,
-        }
+        loc as u32
     }
 }
 
 impl Location {
-    // The side order: clockwise from the left.
+    // The side order, clockwise from the left: the discriminants, as constants for callers.
     pub const LEFT: u32 = 0;
 
     pub const TOP: u32 = 1;
@@ -75,9 +69,9 @@ impl Location {
         ensures { result ≡ side n }
     {
         match n {
-            0 => Location::Left,
-            1 => Location::Top,
-            2 => Location::Right,
+            Location::LEFT => Location::Left,
+            Location::TOP => Location::Top,
+            Location::RIGHT => Location::Right,
             _ => Location::Bottom,
         }
     }

@@ -75,7 +75,7 @@ impl Rect64 {
         Point64 { x, y }
     }
 
-    // The corners' coordinates: left-top, right-top, right-bottom, left-bottom.
+    // The corners' coordinates: left-top, right-top, right-bottom, left-bottom. By four calls of `corner` it would be longer, and no plainer.
     pub fn corners(self) -> [i64; 8]
         ensures { result ≡ coordinates_of (as_path self) }
     {
@@ -86,7 +86,7 @@ impl Rect64 {
         [l, t, r, t, r, b, l, b]
     }
 
-    // The corner that a side's edge starts from, going clockwise round the rectangle: `rect_as_path[loc as usize]`.
+    // The corner that a side's edge ends in, going clockwise round the rectangle: `rect_as_path[loc as usize]`.
     pub fn corner(self, loc: Location) -> Point64
         ensures { result ≡ corner self loc }
     {
@@ -193,7 +193,7 @@ fn within_limit(z: i64) -> bool
     (-Rect64::MAX_COORDINATE..=Rect64::MAX_COORDINATE).contains(&z)
 }
 
-// The bit of the line that z is on, the first if it is on both, and 0 if it is on neither: bits, as the Rust's sets of edges have them.
+// The bit of the line that z is on, the first if it is on both, and 0 if it is on neither: bits, since `get_edges_for_pt` answers a set of edges as a number.
 fn line_bit(z: i64, first: i64, second: i64, first_bit: u32, second_bit: u32) -> u32
     requires { first_bit ≤ 8 × second_bit ≤ 8 }
     ensures small { result ≤ 8 }

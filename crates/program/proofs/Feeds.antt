@@ -7,7 +7,7 @@ use native.Mathlib.Omega.{arith}
 use lib.ListN.{length, take, drop}
 use lib.Seq.{take-nil, drop-nil}
 use lib.Dec.{eqb, ltb}
-use borrow.Author.Tests.{eq-eqb, ne_eqb, ltb-true, ltb-false}
+use borrow.Author.Tests.{ne_eqb, ltb-true, ltb-false}
 use Rattle.program.specs.Taken.{before_feed, has_feed, behind_feed}
 
 -- ---- the bytes of a list between two places
@@ -27,9 +27,6 @@ hand_none buffer at end h = go (ltb at end) refl
     go false e = let z : end - at ≡ 0 = omega (arith, ltb-false at end e) in ap (λ (k : ℕ). take k (drop at buffer)) z
 
 -- ---- one byte more
-pub feed_byte : (b : ℕ) (bs : List ℕ) → b ≡ 10 → (before_feed (b ∷ bs) ≡ []) × (has_feed (b ∷ bs) ≡ true) × (behind_feed (b ∷ bs) ≡ bs)
-feed_byte b bs h = (rw (eq-eqb b 10 h) refl, rw (eq-eqb b 10 h) refl, rw (eq-eqb b 10 h) refl)
-
 pub other_byte : (b : ℕ) (bs : List ℕ) → (b ≡ 10 → ⊥) → (before_feed (b ∷ bs) ≡ b ∷ before_feed bs) × (has_feed (b ∷ bs) ≡ has_feed bs) × (behind_feed (b ∷ bs) ≡ behind_feed bs)
 other_byte b bs h = (rw (ne_eqb b 10 h) refl, rw (ne_eqb b 10 h) refl, rw (ne_eqb b 10 h) refl)
 

@@ -1,27 +1,28 @@
--- What bytes at hand have of a line is taken a byte at a time; and what is left of those at hand. Assumes nothing.
+-- What bytes at hand have of a line, by the place of the first line feed; and what is left of those at hand. Assumes nothing.
 use mathlib.Core.Path.{◌≡◌, refl, sym, ◌∙◌, ap, subst}
 use mathlib.Core.Bool.{Bool, true, false}
-use mathlib.Core.List.{List, [], ◌∷◌}
+use mathlib.Core.List.{List, [], ◌∷◌, ◌++◌, append_assoc}
 use Prim.Native.Nat.{ℕ, suc, ◌+◌, ◌-◌, ◌<◌, ◌≤◌, min}
 use native.Mathlib.Omega.{arith}
-use lib.ListN.{length, take, drop, get_or, set, length-set}
-use lib.Seq.{sets, drop-cons, drop-nil, take_all}
+use lib.ListN.{length, take, drop}
+use lib.Seq.{sets, sets-eq, length-sets, drop-nil, take_all}
 use lib.Dec.{eqb, ltb}
-use borrow.Author.Tests.{ltb-true, ltb-false, eqb-false}
-use Rattle.std.proofs.lemmas.List.{drop-take, drop-drop, length-drop, length-take}
-use Rattle.text.proofs.Stores.{sets_out}
+use borrow.Author.Tests.{ltb-true, ltb-false, lt-ltb, le-ltb, eqb-false}
+use Rattle.std.proofs.lemmas.List.{take-append-drop, drop-take, drop-drop, length-drop, length-take}
+use Rattle.std.specs.Prelude.{Option, Some, None, if◌then◌else◌}
+use mir.Val.{bool_byte}
+use Rattle.std.specs.Option.{unwrap_or, is_some}
+use Rattle.std.specs.List.{position, position_or_len}
+use Rattle.text.proofs.Stores.{sets_out, sets_append}
 use Rattle.program.specs.declared.input.Taken.{Taken}
 use Rattle.program.specs.declared.input.Held.{Held}
-use Rattle.program.specs.Taken.{before_feed, has_feed, behind_feed, passed, held, TakesHeld, TakesAtHand}
-use Rattle.program.proofs.Feeds.{between, hand_none, drop_past, feed_byte, other_byte}
+use Rattle.program.specs.Taken.{before_feed, has_feed, behind_feed, passed, TakesHeld, TakesAtHand}
+use Rattle.program.proofs.Feeds.{between, hand_none, other_byte, whole_line}
 
 held_as : {n n' : ℕ} {b b' : Bool} → n ≡ n' → b ≡ b' → ◌≡◌ {A = Taken} (record { count = n; ended = b }) (record { count = n'; ended = b' })
 held_as q r = λ i. record { count = q i; ended = r i }
 
 -- ---- how many bytes are taken
-passed_feed : (b : ℕ) (bs : List ℕ) → b ≡ 10 → passed (b ∷ bs) ≡ 1
-passed_feed b bs e = let f = feed_byte b bs e in rw (f.0, f.1) refl
-
 passed_other : (b : ℕ) (bs : List ℕ) → (b ≡ 10 → ⊥) → passed (b ∷ bs) ≡ suc (passed bs)
 passed_other b bs e = let f = other_byte b bs e in rw (f.0, f.1) (omega arith)
 
@@ -45,71 +46,96 @@ behind_passed (b ∷ bs) = go (eqb b 10) refl (behind_passed bs)
         let other = eqb-false b 10 e in
         (other_byte b bs other).2 ∙ h ∙ ap (λ (k : ℕ). drop k (b ∷ bs)) (sym (passed_other b bs other))
 
--- ---- what is still to be taken gives what all of it was to give
-pub record HeldTo (hand line₀ : List ℕ) (from at : ℕ) (line : List ℕ) (count : ℕ) : Type 0 where
-  pub long : length line ≡ length line₀
-  pub used : at + passed (drop at hand) ≡ passed hand
-  pub goal : held (drop at hand) (length line₀) count ≡ held hand (length line₀) from
-  pub list : sets line count (before_feed (drop at hand)) ≡ sets line₀ from (before_feed hand)
+-- ---- the first line feed
 
-byte_ahead : (hand : List ℕ) (at : ℕ) → at < length hand → drop at hand ≡ get_or hand at 0 ∷ drop (at + 1) hand
-byte_ahead hand at h =
-    let n : suc at ≡ at + 1 = omega arith in
-    drop-cons hand at 0 h ∙ ap (λ (k : ℕ). get_or hand at 0 ∷ drop k hand) n
+-- it stands behind the line's bytes, where there is one
+feed_place : (bytes : List ℕ) → position_or_len (λ b. eqb b 10) bytes ≡ length (before_feed bytes)
+feed_place [] = refl
+feed_place (b ∷ bs) = go (eqb b 10) refl (feed_place bs)
+  where
+    go : (t : Bool) → eqb b 10 ≡ t → position_or_len (λ b. eqb b 10) bs ≡ length (before_feed bs) → position_or_len (λ b. eqb b 10) (b ∷ bs) ≡ length (before_feed (b ∷ bs))
+    go true e h = rw e refl
+    go false e h = rw e (omega (arith, h))
 
-module _ {hand line₀ : List ℕ} {from at : ℕ} {line : List ℕ} {count : ℕ} (to : HeldTo hand line₀ from at line count) where
-  pub held_end : length hand ≤ at → TakesHeld hand line₀ from (record { used = length hand; line = record { count = count; ended = false } }) line
-  held_end h =
-      let m : drop at hand ≡ [] = drop_past hand at h in
-      let none : passed (drop at hand) ≡ 0 = ap passed m in
-      record {
-        used = omega (arith, to.used, passed_fits hand);
-        is = sym (held_as (rw m (omega arith)) (rw m refl)) ∙ to.goal;
-        line_after = ap (λ (bytes : List ℕ). sets line count (before_feed bytes)) (sym m) ∙ to.list;
-      }
+-- there is one, and the line ends before the bytes do; or all of them are the line's
+front_line : (bytes : List ℕ) → take (length (before_feed bytes)) bytes ≡ before_feed bytes
+front_line [] = refl
+front_line (b ∷ bs) = go (eqb b 10) refl (front_line bs)
+  where
+    go : (t : Bool) → eqb b 10 ≡ t → take (length (before_feed bs)) bs ≡ before_feed bs → take (length (before_feed (b ∷ bs))) (b ∷ bs) ≡ before_feed (b ∷ bs)
+    go true e h = rw e refl
+    go false e h = rw e (ap (λ (l : List ℕ). b ∷ l) h)
 
-  module _ (h : at < length hand) where
-    pub held_feed : get_or hand at 0 ≡ 10 → TakesHeld hand line₀ from (record { used = at + 1; line = record { count = count; ended = true } }) line
-    held_feed e =
-        let m = byte_ahead hand at h in
-        let b = feed_byte (get_or hand at 0) (drop (at + 1) hand) e in
-        let none : before_feed (drop at hand) ≡ [] = ap before_feed m ∙ b.0 in
-        let ends : has_feed (drop at hand) ≡ true = ap has_feed m ∙ b.1 in
-        let one : passed (drop at hand) ≡ 1 = ap passed m ∙ passed_feed (get_or hand at 0) (drop (at + 1) hand) e in
-        record {
-          used = omega (arith, to.used);
-          is = sym (held_as (rw none (omega arith)) ends) ∙ to.goal;
-          line_after = ap (sets line count) (sym none) ∙ to.list;
-        }
+feed_within : (bytes : List ℕ) → has_feed bytes ≡ true → length (before_feed bytes) < length bytes
+feed_within bytes e = omega (arith, passed_fits bytes, ap (λ (t : Bool). length (before_feed bytes) + (if t then 1 else 0)) e)
 
-    module _ (e : get_or hand at 0 ≡ 10 → ⊥) where
-      line_ahead : before_feed (drop at hand) ≡ get_or hand at 0 ∷ before_feed (drop (at + 1) hand)
-      line_ahead = ap before_feed (byte_ahead hand at h) ∙ (other_byte (get_or hand at 0) (drop (at + 1) hand) e).0
+-- by the search for it
+pub record FeedAt (bytes : List ℕ) (r : Option ℕ) : Type 0 where
+  pub place : unwrap_or r (length bytes) ≡ length (before_feed bytes)
+  pub here : is_some r ≡ has_feed bytes
 
-      feed_ahead : has_feed (drop at hand) ≡ has_feed (drop (at + 1) hand)
-      feed_ahead = ap has_feed (byte_ahead hand at h) ∙ (other_byte (get_or hand at 0) (drop (at + 1) hand) e).1
+pub feed_at : (bytes : List ℕ) {r : Option ℕ} → r ≡ position (λ b. eqb b 10) bytes → FeedAt bytes r
+feed_at bytes {r} e = go (has_feed bytes) refl
+  where
+    go : (t : Bool) → has_feed bytes ≡ t → FeedAt bytes r
+    go true f =
+        let some : r ≡ Some (length (before_feed bytes)) =
+        e ∙ rw (feed_place bytes, lt-ltb (length (before_feed bytes)) (length bytes) (feed_within bytes f)) refl in
+        record { place = ap (λ (o : Option ℕ). unwrap_or o (length bytes)) some; here = ap is_some some ∙ sym f }
+    go false f =
+        let all : before_feed bytes ≡ bytes = whole_line bytes f in
+        let none : r ≡ None = e ∙ rw (feed_place bytes, all, le-ltb (length bytes) (length bytes) (omega arith)) refl in
+        record { place = ap (λ (o : Option ℕ). unwrap_or o (length bytes)) none ∙ ap length (sym all); here = ap is_some none ∙ sym f }
 
-      used_ahead : (at + 1) + passed (drop (at + 1) hand) ≡ passed hand
-      used_ahead = let one : passed (drop at hand) ≡ suc (passed (drop (at + 1) hand)) = ap passed (byte_ahead hand at h) ∙ passed_other (get_or hand at 0) (drop (at + 1) hand) e in omega (arith, to.used)
+-- ---- as much of a line as its list has room for
+stored_front : (xs line : List ℕ) (from : ℕ) {start stored : ℕ} → start ≡ min from (length line) → stored ≡ min (length xs) (length line - start)
+    → sets line start (take stored xs) ≡ sets line from xs
+stored_front xs line from {start} {stored} p q = go (ltb (length line) from) refl (ltb (length line) (from + length xs)) refl
+  where
+    go : (b : Bool) → ltb (length line) from ≡ b → (b' : Bool) → ltb (length line) (from + length xs) ≡ b' → sets line start (take stored xs) ≡ sets line from xs
+    go true e b' e' =
+        let h = ltb-true (length line) from e in
+        sets_out (take stored xs) line start (omega arith) ∙ sym (sets_out xs line from (omega arith))
+    go false e true e' =
+        let h = ltb-false (length line) from e in
+        let h' = ltb-true (length line) (from + length xs) e' in
+        let s : start ≡ from = omega arith in
+        let m : length (take stored xs) ≡ stored = length-take stored xs ∙ (omega arith) in
+        ap (λ (k : ℕ). sets line k (take stored xs)) s
+        ∙ sym (sets_out (drop stored xs) (sets line from (take stored xs)) (from + length (take stored xs)) (omega (arith, length-sets line from (take stored xs))))
+        ∙ sym (sets_append (take stored xs) (drop stored xs) line from)
+        ∙ ap (sets line from) (take-append-drop stored xs)
+    go false e false e' =
+        let h = ltb-false (length line) from e in
+        let h' = ltb-false (length line) (from + length xs) e' in
+        let s : start ≡ from = omega arith in
+        ap (λ (k : ℕ). sets line k (take stored xs)) s ∙ ap (sets line from) (take_all stored xs (omega arith))
 
-      pub held_stored : count < length line → HeldTo hand line₀ from (at + 1) (set line count (get_or hand at 0)) (count + 1)
-      held_stored g =
-          let n : count + 1 ≡ suc count = omega arith in
-          record {
-            long = length-set line count (get_or hand at 0) ∙ to.long;
-            used = used_ahead;
-            goal = held_as (rw line_ahead (omega (arith, to.long))) (sym feed_ahead) ∙ to.goal;
-            list = ap (λ (k : ℕ). sets (set line count (get_or hand at 0)) k (before_feed (drop (at + 1) hand))) n ∙ ap (sets line count) (sym line_ahead) ∙ to.list;
-          }
+pub holds_front : (xs line : List ℕ) (from : ℕ) {start stored n : ℕ} {copied : List ℕ} → start ≡ min from (length line) → stored ≡ min (length xs) (length line - start) → n ≡ stored → copied ≡ take stored xs
+    → take start line ++ (copied ++ drop n (drop start line)) ≡ sets line from xs
+holds_front xs line from {start} {stored} {n} {copied} p q r e =
+    let m : length (take stored xs) ≡ n = length-take stored xs ∙ (omega arith) in
+    ap (λ (c : List ℕ). take start line ++ (c ++ drop n (drop start line))) e
+    ∙ ap (λ (l : List ℕ). take start line ++ (take stored xs ++ l)) (drop-drop n start line ∙ ap (λ (k : ℕ). drop (start + k) line) (sym m))
+    ∙ sym (append_assoc (take start line) (take stored xs) (drop (start + length (take stored xs)) line))
+    ∙ sym (sets-eq (take stored xs) line start (omega (arith, m)))
+    ∙ stored_front xs line from p q
 
-      pub held_passed : length line ≤ count → HeldTo hand line₀ from (at + 1) line count
-      held_passed g =
-          record {
-            long = to.long;
-            used = used_ahead;
-            goal = held_as (rw line_ahead (omega (arith, to.long))) (sym feed_ahead) ∙ to.goal;
-            list = sets_out (before_feed (drop (at + 1) hand)) line count g ∙ sym (sets_out (before_feed (drop at hand)) line count g) ∙ to.list;
-          }
+pub holds_line : (hand line : List ℕ) (from : ℕ) {r : Option ℕ} {at start stored n more : ℕ} {copied : List ℕ} {ended : Bool} → FeedAt hand r → at ≡ unwrap_or r (length hand) → ended ≡ is_some r → more ≡ bool_byte ended
+    → start ≡ min from (length line) → stored ≡ min (length (take at hand)) (length line - start) → n ≡ stored → copied ≡ take stored (take at hand)
+    → TakesHeld hand line from (record { used = length (take at hand) + more; line = record { count = from + stored; ended = ended } }) (take start line ++ (copied ++ drop n (drop start line)))
+holds_line hand line from {r} {at} {start} {stored} {n} {more} {copied} {ended} f a b one p q o e =
+    let xs : take at hand ≡ before_feed hand = ap (λ (i : ℕ). take i hand) (a ∙ f.place) ∙ front_line hand in
+    let counted : more ≡ (if has_feed hand then 1 else 0) = one ∙ ap bool_byte (b ∙ f.here) ∙ byte_of (has_feed hand) in
+    record {
+      used = λ i. length (xs i) + counted i;
+      is = held_as (omega (arith, ap length xs)) (b ∙ f.here);
+      line_after = holds_front (take at hand) line from p q o e ∙ ap (sets line from) xs;
+    }
+  where
+    byte_of : (t : Bool) → bool_byte t ≡ (if t then 1 else 0)
+    byte_of true = refl
+    byte_of false = refl
 
 -- ---- what is at hand of a buffer
 -- nothing of it is past its end

@@ -6,3 +6,4 @@ pub mod Exact
 pub mod Feeds
 pub mod HeldBytes
 pub mod Taken
+pub mod Visiting

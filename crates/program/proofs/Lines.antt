@@ -16,7 +16,7 @@ use Rattle.rectclip.proofs.Writing.{coordinates_length}
 use Rattle.text.specs.Printing.{path_line, path_lines}
 use Rattle.text.specs.Written.{Written, coordinates_line, points_line}
 use Rattle.std.specs.Prelude.{Option, Some, IsSome}
-use Rattle.program.specs.Printed.{Gives, Added, Begins, Holds, Prints}
+use Rattle.program.specs.Printed.{Gives, Added, Begins, Holds}
 
 -- ---- one line that fits
 pub gives_line : {l out : List ℕ} {r : Option ℕ} {n : ℕ} {after : List ℕ} → length l ≤ length out → Written l out r after → r ≡ Some n → Gives l out n after
@@ -185,10 +185,3 @@ module _ {closed : Bool} {line : ℤ} {N out₀ : List ℕ} {all : List (List Po
 
     pub paths_long : length out ≡ length out₀
     paths_long = s.written.long
-
--- by the line's number as it came
-pub holds_as : (closed : Bool) {x y : ℤ} {C : List ℤ} {N out : List ℕ} {all : List (List Point64)} → x ≡ y → Holds closed x C N out all → Holds closed y C N out all
-holds_as closed {x} {y} {C} {N} {out} {all} e h = subst (λ (z : ℤ). Holds closed z C N out all) e h
-
-pub prints_as : (closed : Bool) {x y : ℤ} {C : List ℤ} {N out : List ℕ} {r : ℕ} {after : List ℕ} → x ≡ y → Prints closed x C N out r after → Prints closed y C N out r after
-prints_as closed {x} {y} {C} {N} {out} {r} {after} e h = subst (λ (z : ℤ). Prints closed z C N out r after) e h

@@ -28,7 +28,7 @@ fn write_why(line: i64, why: Refusal, out: &mut [u8]) -> usize
     requires { 46 ≤ length out.old }
     ensures { Gives (refusal_line line (number why)) out.old result out.new }
 {
-    write_refusal(line, why.number() as i64, out).unwrap()
+    write_refusal(line, i64::from(u32::from(why)), out).unwrap()
 }
 
 // Line 1 refused.
@@ -68,77 +68,73 @@ pub fn answer_first(bytes: &[u8], out: &mut [u8; 128]) -> Start
     }
 }
 
-// The line of one path, behind the bytes that are written; answers where it ends.
-fn add_path(closed: bool, line: i64, path: &[i64], out: &mut [u8], end: usize) -> usize
-    requires { end + length (coordinates_line closed line path.now) ≤ length out.old }
-    ensures { Added (coordinates_line closed line path.now) end out.old result out.new }
-{
-    let n = write_path(closed, line, path, &mut out[end..]).unwrap();
-    end + n
-}
-
-// The lines of a result's paths: their lengths and, one path behind another, their coordinates.
-fn write_paths(
+// A path's line of the input: the path's kind and the line's number.
+#[derive(Clone, Copy)]
+struct PathLine {
     closed: bool,
     line: i64,
-    coordinates: &[i64],
-    lengths: &[u32],
-    out: &mut [u8],
-) -> usize
-    requires { Printable closed line coordinates.now lengths.now out.old }
-    ensures { Prints closed line coordinates.now lengths.now out.old result out.new }
-{
-    let mut rest = coordinates;
-    let mut end = 0;
-    for points in lengths {
-        let (path, others) = rest.split_at(2 * (*points as usize));
-        end = add_path(closed, line, path, out, end);
-        rest = others;
-    }
-    end
 }
 
-// A path of at most 128 points.
-fn answer_path(rect: Rect64, closed: bool, line: i64, path: &[i64], out: &mut [u8; 12288]) -> usize
-    requires { length path.now ≤ 256 }
-    ensures gives { Gives (path_answer closed line (clipped closed rect path.now)) out.old result out.new }
-    ensures exact { ExactUnlessRefused closed rect line path.now (take result out.new) }
-{
-    let mut coordinates = [0i64; 512];
-    let mut lengths = [0u32; 257];
-    let answer = clip(closed, rect, path, &mut coordinates, &mut lengths);
-    match answer {
-        Err(why) => write_why(line, why, out),
-        Ok(c) => write_paths(
-            closed,
-            line,
-            &coordinates,
-            &lengths[..c.paths as usize],
-            out,
-        ),
+impl PathLine {
+    // The line of one returned path, behind the bytes that are written; answers where it ends.
+    fn add_path(self, path: &[i64], out: &mut [u8], end: usize) -> usize
+        requires { end + length (coordinates_line self.closed self.line path.now) ≤ length out.old }
+        ensures { Added (coordinates_line self.closed self.line path.now) end out.old result out.new }
+    {
+        let n = write_path(self.closed, self.line, path, &mut out[end..]).unwrap();
+        end + n
     }
-}
 
-// A path of so many numbers at the list's front. The count is no length of a slice: there may be more numbers than the list holds.
-fn answer_numbers(
-    rect: Rect64,
-    closed: bool,
-    line: i64,
-    numbers: &[i64],
-    count: usize,
-    out: &mut [u8; 12288],
-) -> usize
-    requires { 256 ≤ length numbers.now }
-    ensures gives { Gives (numbers_answer rect line closed count (take count numbers.now)) out.old result out.new }
-    ensures exact { ExactUnlessRefused closed rect line (take count numbers.now) (take result out.new) }
-{
-    if count % 2 == 1 {
-        return write_why(line, Refusal::OddCoordinates, out);
+    // The lines of a result's paths: their lengths and, one path behind another, their coordinates.
+    fn write_paths(self, coordinates: &[i64], lengths: &[u32], out: &mut [u8]) -> usize
+        requires { Printable self.closed self.line coordinates.now lengths.now out.old }
+        ensures { Prints self.closed self.line coordinates.now lengths.now out.old result out.new }
+    {
+        let mut rest = coordinates;
+        let mut end = 0;
+        for points in lengths {
+            let (path, others) = rest.split_at(2 * (*points as usize));
+            end = self.add_path(path, out, end);
+            rest = others;
+        }
+        end
     }
-    if 256 < count {
-        return write_why(line, Refusal::PathTooLong, out);
+
+    // A path of at most 128 points.
+    fn answer_path(self, rect: Rect64, path: &[i64], out: &mut [u8; 12288]) -> usize
+        requires { length path.now ≤ 256 }
+        ensures gives { Gives (path_answer self.closed self.line (clipped self.closed rect path.now)) out.old result out.new }
+        ensures exact { ExactUnlessRefused self.closed rect self.line path.now (take result out.new) }
+    {
+        let mut coordinates = [0i64; 512];
+        let mut lengths = [0u32; 257];
+        let answer = clip(self.closed, rect, path, &mut coordinates, &mut lengths);
+        match answer {
+            Err(why) => write_why(self.line, why, out),
+            Ok(c) => self.write_paths(&coordinates, &lengths[..c.paths as usize], out),
+        }
     }
-    answer_path(rect, closed, line, &numbers[..count], out)
+
+    // A path of so many numbers at the list's front. The count is no length of a slice: there may be more numbers than the list holds.
+    fn answer_numbers(
+        self,
+        rect: Rect64,
+        numbers: &[i64],
+        count: usize,
+        out: &mut [u8; 12288],
+    ) -> usize
+        requires { 256 ≤ length numbers.now }
+        ensures gives { Gives (numbers_answer rect self.line self.closed count (take count numbers.now)) out.old result out.new }
+        ensures exact { ExactUnlessRefused self.closed rect self.line (take count numbers.now) (take result out.new) }
+    {
+        if count % 2 == 1 {
+            return write_why(self.line, Refusal::OddCoordinates, out);
+        }
+        if 256 < count {
+            return write_why(self.line, Refusal::PathTooLong, out);
+        }
+        self.answer_path(rect, &numbers[..count], out)
+    }
 }
 
 // A line behind line 1. What it prints for a path is a refusal, or has demand 3.
@@ -150,7 +146,7 @@ pub fn answer_line(rect: Rect64, line: i64, bytes: &[u8], out: &mut [u8; 12288])
     let request = read_line(false, bytes, &mut numbers);
     match request {
         Some(Request::Path(closed, count)) => {
-            answer_numbers(rect, closed, line, &numbers, count, out)
+            PathLine { closed, line }.answer_numbers(rect, &numbers, count, out)
         }
         _ => write_why(line, Refusal::UnreadableLine, out),
     }

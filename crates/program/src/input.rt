@@ -1,8 +1,14 @@
 // The input, a line at a time.
-ghost use Rattle.std.specs.Prelude.{◌≡◌, ◌-◌, not, [], take, drop};
+ghost use Rattle.std.specs.Prelude.{◌≡◌, ◌==◌, ◌-◌, not, [], take, drop, position};
 ghost use Rattle.program.specs.Taken.{has_bytes, at_hand, TakesHeld, TakesAtHand, ReadsMore, TakesLine, IsLine};
+ghost use Rattle.program.specs.Visited.{VisitsLines};
 
+use crate::visitor::Visitor;
+use std::io;
 use std::io::Read;
+
+// One more than the largest number of a line, to which no run comes.
+const NUMBERS_END: u64 = 9223372036854775808;
 
 // The bytes that were read and not yet taken: those of the buffer, of any size, from `at` to `end`.
 #[derive(Drop)]
@@ -14,7 +20,7 @@ pub struct Input<const N: usize> {
 
 // A line at the front of its list: how many of its bytes are there, and whether its line feed was taken. A line that has not ended is the
 // input's last; the count holds of it too, so that the flag is beside it.
-#[derive(Clone, Copy)]
+#[derive(Clone, Copy, Default)]
 pub struct Taken {
     pub count: usize,
     pub ended: bool,
@@ -27,29 +33,29 @@ pub struct Held {
     pub line: Taken,
 }
 
+// Where the first line feed stands.
+fn find_feed(bytes: &[u8]) -> Option<usize>
+    ensures { result ≡ position (λ b. b == 10) bytes.now }
+{
+    bytes.iter().position(|b| *b == b'\n')
+}
+
 // What bytes at hand have of a line, whose first `from` bytes its list has: up to a line feed, which is taken and not stored, or to the end.
 // Of a line that is too long, as much is stored as the list has room for.
 pub fn take_held(hand: &[u8], line: &mut [u8], from: usize) -> Held
     ensures { TakesHeld hand.now line.old from result line.new }
 {
-    let mut count = from;
-    for (i, b) in hand.iter().enumerate() {
-        if *b == b'\n' {
-            return Held {
-                used: i + 1,
-                line: Taken { count, ended: true },
-            };
-        }
-        if count < line.len() {
-            line[count] = *b;
-            count += 1;
-        }
-    }
+    let feed = find_feed(hand);
+    let bytes = &hand[..feed.unwrap_or(hand.len())];
+    let start = from.min(line.len());
+    let stored = bytes.len().min(line.len() - start);
+    line[start..start + stored].copy_from_slice(&bytes[..stored]);
+    let ended = feed.is_some();
     Held {
-        used: hand.len(),
+        used: bytes.len() + usize::from(ended),
         line: Taken {
-            count,
-            ended: false,
+            count: from + stored,
+            ended,
         },
     }
 }
@@ -66,8 +72,8 @@ impl<const N: usize> Input<N> {
         }
     }
 
-    // Bytes of the caller's are at hand: those of `buffer` from `at` to `end`, as far as it has them.
-    pub fn holding(buffer: [u8; N], at: usize, end: usize) -> Input<N>
+    // The caller's buffer and any two places in it: its bytes from `at` to `end` are at hand, as far as it has them.
+    pub fn from_parts(buffer: [u8; N], at: usize, end: usize) -> Input<N>
         ensures { at_hand result ≡ take (end - at) (drop at buffer.entry) }
     {
         Input { buffer, at, end }
@@ -121,5 +127,28 @@ impl<const N: usize> Input<N> {
             taken = self.take_at_hand(line, taken.count);
         }
         begun.then_some(taken)
+    }
+
+    // The lines that are left, each taken into `line`, the first of them with this number, up to one to which the visitor answers an error. Of a
+    // line that is too long, the first `M` bytes are visited.
+    pub fn visit_lines<const M: usize, R: Read, V: Visitor>(
+        mut self,
+        mut line: [u8; M],
+        input: &mut R,
+        first: u64,
+        visitor: &mut V,
+    ) -> io::Result<()>
+        ensures { VisitsLines V.gives M first (R.remaining input.old) (R.remaining input.new) (at_hand self.entry) visitor.old result visitor.new }
+    {
+        for number in first..NUMBERS_END {
+            let Some(taken) = self.take_line(input, &mut line) else {
+                return Ok(());
+            };
+            visitor.visit(number as i64, &line[..taken.count])?;
+            if !taken.ended {
+                return Ok(());
+            }
+        }
+        Ok(())
     }
 }

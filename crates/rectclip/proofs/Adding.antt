@@ -3,11 +3,12 @@
 use mathlib.Core.Path.{◌≡◌, refl, sym, ◌∙◌, ap}
 use mathlib.Core.Bool.{Bool, true, false, ◌||◌}
 use mathlib.Core.List.{List, [], ◌∷◌, map}
-use Prim.Native.Nat.{ℕ, ◌+◌, ◌-◌, ◌*◌, ◌/◌, ◌<◌, ◌≤◌}
+use Prim.Native.Nat.{ℕ, zero, suc, ◌+◌, ◌-◌, ◌*◌, ◌/◌, ◌<◌, ◌≤◌}
 use native.Mathlib.Omega.{arith}
 use native.Mathlib.Numerals.{add-one}
 use native.Mathlib.Decide.{ℕ_discrete}
-use borrow.Author.Tests.{le-leb, lt-leb}
+use borrow.Author.Tests.{le-leb, lt-leb, eqb-true}
+use lib.Dec.{eqb}
 use lib.ListN.{length, take}
 use lib.Seq.{take-suc-set, get_or-set_same, get_or-set_other, get_or-take, length-take-le}
 use lib.IntN.{ℤ}
@@ -28,8 +29,11 @@ use Rattle.rectclip.specs.Steps.{walk, full, Steps}
 use Rattle.rectclip.proofs.Steps.{stays, refused}
 use Rattle.rectclip.proofs.Coordinates.{points_length, points_take, points_put, length_put_point}
 
-pub pos_of : {n : ℕ} → (n ≡ 0 → ⊥) → 0 < n
-pos_of h = omega arith
+-- no result begins, and there is a point before
+pub goes_on : (b : Bool) (n : ℕ) → (b || eqb n 0) ≡ false → (b ≡ false) × (0 < n)
+goes_on true n h = absurd (let z : ◌≡◌ {A = ℕ} 0 1 = cc in omega arith)
+goes_on false zero h = absurd (let z : ◌≡◌ {A = ℕ} 0 1 = cc in omega arith)
+goes_on false (suc n) h = (refl, omega arith)
 
 -- ---- the definition's `add`, by cases, for a walk of n points
 module _ (full : ℕ → Bool) (w : Walk) (pt : Point64) (n : ℕ) (hn : length w.points ≡ n) where
@@ -183,8 +187,10 @@ module _ (x : Walker) (pt : Point64) where
     pub begin_refused : Steps (add (full x) (walk x) pt true) x x (Err StoreFull)
     begin_refused = refused (sym (add_new_full _ (walk x) pt x.state.points many (le-leb _ _ h)))
 
-  pub begin_first : x.state.points ≡ 0 → add (full x) (walk x) pt true ≡ add (full x) (walk x) pt false
-  begin_first h = sym (add_first _ (walk x) pt x.state.points many h)
+  -- a result begins where there is no point yet
+  pub begin_first : (b : Bool) → (b || eqb x.state.points 0) ≡ true → add (full x) (walk x) pt true ≡ add (full x) (walk x) pt b
+  begin_first true h = refl
+  begin_first false h = sym (add_first _ (walk x) pt x.state.points many (eqb-true x.state.points 0 h))
 
   pub begin_is : x.state.points < length x.store.now / 2 → Reached pt
       → ok (walk_of (put_point x.store.now x.state.points pt) (put 4 x.work.now x.state.starts x.state.points) (record { points = x.state.points + 1; starts = x.state.starts + 1; start_locs = x.state.start_locs })) ≡ add (full x) (walk x) pt true

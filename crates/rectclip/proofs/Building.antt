@@ -1,13 +1,14 @@
 -- The nodes put down one after another are the definition's ring of the walked points. Assumes nothing.
 use mathlib.Core.Path.{◌≡◌, refl, sym, ◌∙◌, ap}
 use mathlib.Core.List.{List, [], ◌∷◌}
-use Prim.Native.Nat.{ℕ, zero, suc, ◌+◌, ◌*◌, ◌-◌, ◌<◌, ◌≤◌}
+use Prim.Native.Nat.{ℕ, zero, suc, ◌+◌, ◌*◌, ◌-◌, ◌%◌, ◌<◌, ◌≤◌}
 use native.Mathlib.Omega.{arith}
 use native.Mathlib.Decide.{ℕ_discrete}
 use lib.ListN.{length, get_or, replicate, length-append, length-replicate, get_or-replicate, get_or-append}
 use lib.IntN.{ℤ}
 use lib.Seq.{ext_get_or, get_or_at}
 use borrow.Author.Tests.{eq-eqb, ne_eqb}
+use Rattle.std.proofs.Math.Nat.{mod_self, mod-eq_of_lt}
 use Rattle.plane.specs.Basics.{none, push, upwards}
 use Rattle.reference.specs.Arena.{edge_list, ring}
 use Rattle.rectclip.specs.declared.arena.Sizes.{Sizes}
@@ -82,11 +83,18 @@ pub record Linking (n : ℕ) (m₀ m : List ℕ) (prev i : ℕ) : Type 0 where
   pub here : i ≤ n
   pub same : length m ≡ length m₀
 
-pub linking_again : {n : ℕ} {m₀ m : List ℕ} {prev i : ℕ} → Linking n m₀ m prev i → i < n → (next : ℕ) → next ≡ after n i → {m' : List ℕ} → Placed m m' i next prev → Linking n m₀ m' i (i + 1)
-linking_again {n} {prev = prev} {i = i} I h next e {m'} p = record {
+after_is : (n i : ℕ) → i < n → (i + 1) % n ≡ after n i
+after_is n i h =
+    elim (ℕ_discrete (i + 1) n) [
+      | yes e ↦ rw (eq-eqb (i + 1) n e, e) (mod_self n)
+      | no q ↦ rw (ne_eqb (i + 1) n q) (mod-eq_of_lt (omega arith))
+    ]
+
+pub linking_again : {n : ℕ} {m₀ m : List ℕ} {prev i : ℕ} → Linking n m₀ m prev i → i < n → {m' : List ℕ} → Placed m m' i ((i + 1) % n) prev → Linking n m₀ m' i (i + 1)
+linking_again {n} {prev = prev} {i = i} I h {m'} p = record {
   each = λ j l.
       elim (ℕ_discrete j i) [
-        | yes q ↦ rw (q, ← e, ← I.prev_is) p.here
+        | yes q ↦ rw (q, ← after_is n i h, ← I.prev_is) p.here
         | no q ↦ p.others j (after n j) (before n j) q (I.each j (omega arith))
       ];
   prev_is = rw (ne_eqb (i + 1) 0 (λ q. omega arith)) (omega arith);
@@ -145,9 +153,6 @@ built_by L e = record { is = L.is; store = e; slots_are = L.slots_are; nodes_are
 
 no_lens : (e : ℕ) → e < 8 → ◌≡◌ {A = ℕ} (get_or (replicate 8 0) e 0) 0
 no_lens e h = get_or-replicate {A = ℕ} 8 e 0 0 h
-
-no_list : (e : ℕ) → e < 8 → length (get_or {A = List ℕ} (replicate 8 []) e []) ≡ 0
-no_list e h = ap length (get_or-replicate {A = List ℕ} 8 e [] [] h)
 
 no_entries : (m : List ℕ) (slots n results e : ℕ) → e < 8 → length (edge_list (arena_at m (sizes slots n results)) e) ≡ 0
 no_entries m slots n results e h = list_length m (sizes slots n results) refl e h ∙ no_lens e h

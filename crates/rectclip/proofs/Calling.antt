@@ -26,8 +26,12 @@ use Rattle.entry.specs.declared.answer.Refusal.{Refusal}
 use Rattle.entry.specs.Answers.{outcome, checked, admission}
 use Rattle.entry.proofs.Admitting.{Let, let_through, told_stopped, told_admitted}
 use Rattle.entry.proofs.Sheets.{number_not_zero}
-use Rattle.rectclip.specs.Promises.{lent, Clips, Leaves, Returned, ClipsPath, Drawable}
-use Rattle.rectclip.specs.Delivering.{Clippable}
+use Rattle.rectclip.specs.Promises.{lent, Clips, Leaves, Returned, ClipsPath}
+use Rattle.rectclip.specs.declared.call.Call.{Call}
+use Rattle.rectclip.specs.declared.output.Output.{Output}
+use Rattle.rectclip.specs.Calls.{Admitted, Allowance}
+use Rattle.rectclip.specs.Outputs.{Unfilled}
+use Rattle.rectclip.specs.Delivering.{Gives, SameCall}
 use Rattle.rectclip.proofs.Writing.{coordinates_length, filled_length}
 
 -- ---- store and work are cleared
@@ -129,41 +133,31 @@ module _ (closed : Bool) (A : ℕ) (rect : Rect64) (path : List ℤ) (l : Lent) 
       exact d q = demand_3 closed (no_room W) A rect path d (call_bounded W (omega (arith, allowed.few))) (T_of allowed.frame) (T_of allowed.points) q
 
       -- a call that is let through: the drawing is worked out, and both working lists are cleared
-      pub drawn_call : {r : Result Counts Refusal} {coordinates' : List ℤ} {lengths' : List ℕ} → Leaves (answered l 0 drawing) r coordinates' lengths'
-          → (store1 : List ℤ) (work1 : List ℕ) {store2 : List ℤ} {work2 : List ℕ} → length store1 ≡ length l.store → length work1 ≡ length l.work → store2 ≡ replicate (length store1) (pos 0) → work2 ≡ replicate (length work1) 0
-          → ClipsPath closed A rect path l r (lent coordinates' lengths' store2 work2)
-      drawn_call {coordinates'} {lengths'} L store1 work1 a b s w = record {
-        clips = record {
-          answer = L.answer ∙ sym (ap (λ (x : After). x.answer) left_is);
-          coordinates = L.coords ∙ sym (ap (λ (x : After). x.lists.coordinates) left_is);
-          lengths = L.counts ∙ sym (ap (λ (x : After). x.lists.lengths) left_is);
-          store = s ∙ ap (λ (n : ℕ). replicate n (pos 0)) a ∙ sym (ap (λ (x : After). x.lists.store) left_is ∙ clears_store l drawing);
-          work = w ∙ ap (λ (n : ℕ). replicate n 0) b ∙ sym (ap (λ (x : After). x.lists.work) left_is ∙ clears_work l drawing);
-        };
-        returned = λ c er. returns closed rect path l c coordinates' lengths' drawing exact L er;
-      }
+      pub drawn_call : {x : Output} {r : Result Counts Refusal} {y : Output} → Gives drawing x r y → Unfilled x → x.coordinates.now ≡ l.coordinates → x.lengths.now ≡ l.lengths
+          → {s t : Call} → s.store.now ≡ l.store → s.work.now ≡ l.work → SameCall s t
+          → {after : Lent} → after.coordinates ≡ y.coordinates.now → after.lengths ≡ y.lengths.now → after.store ≡ replicate (length t.store.now) (pos 0) → after.work ≡ replicate (length t.work.now) 0 → ClipsPath closed A rect path l r after
+      drawn_call {x} {r} {y} G U ec el {s} {t} es ew S {after} ac al az aw =
+          let first : Leaves (answered l 0 drawing) r y.coordinates.now y.lengths.now = subst (λ (m : Lent). Leaves (answered m 0 drawing) r y.coordinates.now y.lengths.now) (λ i. lent (ec i) (el i) l.store l.work) (G.is U l.store l.work) in
+          let L : Leaves (answered l 0 drawing) r after.coordinates after.lengths = rw (ac, al) first in
+          record {
+            clips = record {
+              answer = L.answer ∙ sym (ap (λ (x : After). x.answer) left_is);
+              coordinates = L.coords ∙ sym (ap (λ (x : After). x.lists.coordinates) left_is);
+              lengths = L.counts ∙ sym (ap (λ (x : After). x.lists.lengths) left_is);
+              store = az ∙ ap (λ (n : ℕ). replicate n (pos 0)) (S.store_length ∙ ap length es) ∙ sym (ap (λ (x : After). x.lists.store) left_is ∙ clears_store l drawing);
+              work = aw ∙ ap (λ (n : ℕ). replicate n 0) (S.work_length ∙ ap length ew) ∙ sym (ap (λ (x : After). x.lists.work) left_is ∙ clears_work l drawing);
+            };
+            returned = λ c er. returns closed rect path l c after.coordinates after.lengths drawing exact L er;
+          }
 
--- ---- what the two clippers ask of a call that is let through
-module _ (A : ℕ) (rect : Rect64) (path : List ℤ) (l : Lent) (k : Result Rect64 Refusal) (bounds : Rect64) (e : k ≡ Ok bounds) where
-  pub drawable : checked k ≡ admission (early_refusal (length l.store / 2) 0 (length l.work) rect path) path → Drawable rect path bounds l.store l.work
-  drawable ek =
-      let a = allowed false 0 rect path l k ek bounds e in
-      record {
-        room = record { cells = omega (arith, a.cells); small = omega (arith, a.few) };
-        few = a.few;
-        frame = a.frame;
-        points = a.points;
-        bound = bounds_are false 0 rect path l k ek bounds e;
-      }
+-- ---- what the early checks tell of a call that is let through
+module _ (closed : Bool) (A : ℕ) (rect : Rect64) (path : List ℤ) (l : Lent) (k : Result Rect64 Refusal) (bounds : Rect64) (e : k ≡ Ok bounds) (ek : checked k ≡ admission (early_refusal (length l.store / 2) (if closed then A else 0) (length l.work) rect path) path) where
+  pub admitted : Admitted rect path bounds
+  admitted =
+      let a = allowed closed A rect path l k ek bounds e in
+      record { even = a.even; short = a.short; frame = a.frame; points = a.points; bound = bounds_are closed A rect path l k ek bounds e }
 
-  pub clippable : checked k ≡ admission (early_refusal (length l.store / 2) A (length l.work) rect path) path → Clippable rect path bounds A l.store l.work
-  clippable ek =
-      let a = allowed true A rect path l k ek bounds e in
-      record {
-        room = record { cells = a.cells; few = a.few; turns = a.turns };
-        even = a.even;
-        short = a.short;
-        frame = a.frame;
-        points = a.points;
-        bound = bounds_are true A rect path l k ek bounds e;
-      }
+  pub allowance : Allowance (if closed then A else 0) l.store l.work
+  allowance =
+      let a = allowed closed A rect path l k ek bounds e in
+      record { cells = a.cells; few = a.few; turns = a.turns }

@@ -2,8 +2,9 @@
 use mathlib.Core.Path.{◌≡◌, refl, sym, ◌∙◌, ap, subst}
 use mathlib.Core.Bool.{Bool, true, false}
 use mathlib.Core.List.{List}
-use Prim.Native.Nat.{ℕ, ◌+◌, ◌-◌, ◌/◌, ◌≤◌}
-use borrow.Author.Tests.{le-ltb}
+use Prim.Native.Nat.{ℕ, zero, suc, ◌+◌, ◌-◌, ◌/◌}
+use native.Mathlib.Omega.{arith}
+use borrow.Author.Tests.{lt-ltb, ne_eqb}
 use lib.IntN.{ℤ}
 use lib.ListN.{length}
 use Rattle.plane.specs.declared.point.Point64.{Point64}
@@ -16,51 +17,46 @@ use Rattle.plane.specs.Limit.{Limited}
 use Rattle.plane.specs.Locations.{is_inside, same_location}
 use Rattle.plane.specs.Points.{same_point, pt_at, points_of}
 use Rattle.plane.specs.Rectangle.{mid_point, get_location}
-use Rattle.plane.specs.Signs.{is_clockwise_dir}
 use Rattle.plane.proofs.CrossProduct.{mid_point_limited}
 use Rattle.reference.specs.Walk.{Walk, State, add, push_start_loc, push_start_locs, add_corners, add_corner_prev_curr, second_search, remain_outside, enter, pass_to, pass_through, leave, cross_boundary, pt_before}
 use Rattle.entry.specs.declared.answer.Refusal.{Refusal}
-use Rattle.std.specs.Prelude.{Result, Ok, Err}
+use Rattle.std.specs.Prelude.{eqb, if◌then◌else◌, Result, Ok, Err}
 use Rattle.rectclip.specs.declared.walk.Walker.{Walker}
 use Rattle.rectclip.specs.declared.pass.ClosedState.{ClosedState}
 use Rattle.rectclip.specs.declared.pass.Pass.{Pass}
-use Rattle.rectclip.specs.declared.next.Place.{Place}
-use Rattle.rectclip.specs.Bounds.{LimitedTurn}
-use Rattle.rectclip.specs.Moving.{placed}
-use Rattle.rectclip.specs.Steps.{walk, full, next_of, Answers, Steps}
-use Rattle.rectclip.specs.Closing.{passed, state_of, pass_of, moves_on, first_of, enter_corners, pass_corner, pass_start, pass_in, pass_out, Advances}
+use Rattle.rectclip.specs.declared.corners.Way.{Way}
+use Rattle.rectclip.specs.Steps.{walk, full, Answers, Steps}
+use Rattle.rectclip.specs.Closing.{passed, state_of, pass_of, way_to, moves_on, first_of, enter_corners, pass_corner, pass_start, pass_in, pass_out, Advances}
 use Rattle.rectclip.proofs.Coordinates.{points_length}
 use Rattle.rectclip.proofs.Limits.{framed}
 use Rattle.rectclip.proofs.Steps.{on, stays, named, step_then, step_lost, read_as}
-use Rattle.rectclip.proofs.Closing.{outside_starts, outside_corners, outside_stays, entry_first, entry_same, entry_corners, entry_parts, leave_parts, corner_passed, corner_none, start_first, start_none, in_parts, out_corner, out_point, pass_parts, through_second, crossing_enters, crossing_passes, crossing_leaves}
+use Rattle.rectclip.proofs.Closing.{outside_starts, outside_corners, outside_stays, entry_first, entry_same, entry_corners, entry_parts, leave_parts, corner_passed, corner_none, start_first, start_none, in_parts, out_corner, out_point, pass_parts, at_walk, through_second, crossing_enters, crossing_passes, crossing_leaves}
 
 -- ---- points within the limit
-pub turn_limited : (x : Walker) (c : Pass) {m : Point64} → m ≡ mid_point x.rect → LimitedTurn c.prev_pt m c.pt
-turn_limited x c e = record { first = c.start; second = subst Limited (sym e) (mid_point_limited x.rect (framed x.rect x.sheet.frame)); third = c.end }
+pub mid_limited : (x : Walker) {m : Point64} → m ≡ mid_point x.rect → Limited m
+mid_limited x e = subst Limited (sym e) (mid_point_limited x.rect (framed x.rect x.sheet.frame))
 
 -- ---- the point before
-pub before_first : (path : List ℤ) (i : ℕ) → i ≤ 0 → pt_at (points_of path) (length path / 2 - 1) ≡ pt_before (points_of path) i
-before_first path i h = rw (le-ltb 0 i h, points_length path) refl
+pub before_is : (path : List ℤ) (i : ℕ) {k : ℕ} → k ≡ (if eqb i 0 then length path / 2 - 1 else i - 1) → {p : Point64} → p ≡ pt_at (points_of path) k → p ≡ pt_before (points_of path) i
+before_is path zero e f = f ∙ ap (λ (k : ℕ). pt_at (points_of path) k) (e ∙ ap (λ (n : ℕ). n - 1) (sym (points_length path)))
+before_is path (suc i) e f = rw (lt-ltb 0 (suc i) (omega arith)) (f ∙ ap (λ (k : ℕ). pt_at (points_of path) k) (rw (ne_eqb (suc i) 0 (λ q. omega arith)) at e))
 
 -- a step that answers nothing more than the walk, of a definition that has the state s beside it
 abbrev pub Ends : ClosedState → Try State → Walker → Walker → Result Unit Refusal → Type 0
 Ends s = Answers (λ y u. state_of y s)
 
 -- ---- no crossing is found
-abbrev turn : Rect64 → Pass → Location → Bool
-turn rect c l = is_clockwise_dir c.prev l c.prev_pt c.pt (mid_point rect)
-
 -- the state behind a pass that finds none
 abbrev pub went_on : Pass → Location → ClosedState
 went_on c x = record { i = c.i + 1; loc = c.loc; crossing_loc = x; first_cross = c.first_cross }
 
 module _ (x : Walker) (c : Pass) {b : Bool} (eb : b ≡ is_inside c.crossing_prev) where
-  module _ {cw : Bool} (ec : cw ≡ turn x.rect c c.loc) {y : Walker} {r : Result Unit Refusal} where
-    pub remain_starts : b ≡ true → Steps (push_start_locs (full x) x.rect 4 (walk x) c.prev c.loc cw) x y r → Ends (went_on c c.crossing_prev) (remain_outside (full x) x.rect (pass_of x c)) x y r
-    remain_starts t R = named (read_as (rw ec at R) (λ w. passed w (went_on c c.crossing_prev)) (λ u. refl)) (outside_starts (full x) x.rect (pass_of x c) (sym eb ∙ t))
+  module _ {way : Way} (ew : way ≡ way_to x.rect c c.loc) {y : Walker} {r : Result Unit Refusal} where
+    pub remain_starts : b ≡ true → Steps (push_start_locs (full x) x.rect 4 (walk x) way.from way.to way.is_clockwise) x y r → Ends (went_on c c.crossing_prev) (remain_outside (full x) x.rect (pass_of x c)) x y r
+    remain_starts t R = named (read_as (rw ew at R) (λ w. passed w (went_on c c.crossing_prev)) (λ u. refl)) (outside_starts (full x) x.rect (pass_of x c) (sym eb ∙ t))
 
-    pub remain_corners : b ≡ false → {d : Bool} → d ≡ moves_on c.prev c.loc → d ≡ true → Steps (add_corners (full x) x.rect 4 (walk x) c.prev c.loc cw) x y r → Ends (went_on c c.loc) (remain_outside (full x) x.rect (pass_of x c)) x y r
-    remain_corners t ed v R = named (read_as (rw ec at R) (λ w. passed w (went_on c c.loc)) (λ u. refl)) (outside_corners (full x) x.rect (pass_of x c) (sym eb ∙ t) (sym ed ∙ v))
+    pub remain_corners : b ≡ false → {d : Bool} → d ≡ moves_on c.prev c.loc → d ≡ true → Steps (add_corners (full x) x.rect 4 (walk x) way.from way.to way.is_clockwise) x y r → Ends (went_on c c.loc) (remain_outside (full x) x.rect (pass_of x c)) x y r
+    remain_corners t ed v R = named (read_as (rw ew at R) (λ w. passed w (went_on c c.loc)) (λ u. refl)) (outside_corners (full x) x.rect (pass_of x c) (sym eb ∙ t) (sym ed ∙ v))
 
   pub remain_stays : b ≡ false → {d : Bool} → d ≡ moves_on c.prev c.loc → d ≡ false → Advances (remain_outside (full x) x.rect (pass_of x c)) x x (Ok (went_on c c.loc))
   remain_stays t ed v = stays (outside_stays (full x) x.rect (pass_of x c) (sym eb ∙ t) (sym ed ∙ v))
@@ -71,9 +67,9 @@ module _ (x : Walker) (c : Pass) (l : Location) {b : Bool} (eb : b ≡ is_inside
     pub corners_first : b ≡ true → Steps (push_start_loc (full x) (walk x) c.prev) x y r → Steps (enter_corners (full x) x.rect (pass_of x c) l) x y r
     corners_first t R = named R (entry_first (full x) x.rect (pass_of x c) l (sym eb ∙ t))
 
-    pub corners_other : b ≡ false → {d : Bool} → d ≡ same_location c.prev l → d ≡ false → {cw : Bool} → cw ≡ turn x.rect c l
-        → Steps (add_corners (full x) x.rect 4 (walk x) c.prev l cw) x y r → Steps (enter_corners (full x) x.rect (pass_of x c) l) x y r
-    corners_other t ed v ec R = named (rw ec at R) (entry_corners (full x) x.rect (pass_of x c) l (sym eb ∙ t) (sym ed ∙ v))
+    pub corners_other : b ≡ false → {d : Bool} → d ≡ same_location c.prev l → d ≡ false → {way : Way} → way ≡ way_to x.rect c l
+        → Steps (add_corners (full x) x.rect 4 (walk x) way.from way.to way.is_clockwise) x y r → Steps (enter_corners (full x) x.rect (pass_of x c) l) x y r
+    corners_other t ed v ew R = named (rw ew at R) (entry_corners (full x) x.rect (pass_of x c) l (sym eb ∙ t) (sym ed ∙ v))
 
   pub corners_same : b ≡ false → {d : Bool} → d ≡ same_location c.prev l → d ≡ true → Steps (enter_corners (full x) x.rect (pass_of x c) l) x x (Ok tt)
   corners_same t ed v = stays (entry_same (full x) x.rect (pass_of x c) l (sym eb ∙ t) (sym ed ∙ v))
@@ -136,30 +132,29 @@ module _ (x : Walker) where
 
 -- ---- and going out
 -- the state behind it
-abbrev pub out_on : Place → Location → Location → ClosedState
-out_on at l f = record { i = at.i; loc = l; crossing_loc = l; first_cross = f }
+abbrev pub out_on : Pass → Location → Location → ClosedState
+out_on c l f = record { i = c.i; loc = l; crossing_loc = l; first_cross = f }
 
-module _ (x : Walker) (at : Place) (pt ip ip2 : Point64) (f : Location) {b : Bool} (eb : b ≡ same_point ip ip2) {y : Walker} {r : Result Unit Refusal} where
-  pub out_turned : b ≡ true → {s : Spot} → s ≡ get_location x.rect pt → Steps (add_corner_prev_curr (full x) x.rect (walk x) at.loc s.loc) x y r → Ends (out_on at s.loc f) (pass_out (full x) x.rect (next_of x at) pt ip ip2 f) x y r
-  out_turned t {s} es R = named (read_as R (λ v. passed v (out_on at s.loc f)) (λ u. refl)) (out_corner (full x) x.rect (next_of x at) pt ip ip2 f (sym eb ∙ t) s.loc (ap (λ (s : Spot). s.loc) es))
+module _ (x : Walker) (c : Pass) (ip : Point64) (l : Location) (ip2 : Point64) (l2 : Location) {b : Bool} (eb : b ≡ same_point ip ip2) {f : Location} (ef : f ≡ first_of c.first_cross l2) {y : Walker} {r : Result Unit Refusal} where
+  pub out_turned : b ≡ true → {s : Spot} → s ≡ get_location x.rect c.segment.to → Steps (add_corner_prev_curr (full x) x.rect (walk x) l s.loc) x y r → Ends (out_on c s.loc f) (pass_out (full x) x.rect (pass_of x c) ip l ip2 l2) x y r
+  out_turned t {s} es R = rw ef (named (read_as R (λ v. passed v (out_on c s.loc (first_of c.first_cross l2))) (λ u. refl)) (out_corner (full x) x.rect (pass_of x c) ip l ip2 l2 (sym eb ∙ t) s.loc (ap (λ (s : Spot). s.loc) es)))
 
-  pub out_added : b ≡ false → Steps (add (full x) (walk x) ip false) x y r → Ends (out_on at at.loc f) (pass_out (full x) x.rect (next_of x at) pt ip ip2 f) x y r
-  out_added t R = named (read_as R (λ v. passed v (out_on at at.loc f)) (λ u. refl)) (out_point (full x) x.rect (next_of x at) pt ip ip2 f (sym eb ∙ t))
+  pub out_added : b ≡ false → Steps (add (full x) (walk x) ip false) x y r → Ends (out_on c l f) (pass_out (full x) x.rect (pass_of x c) ip l ip2 l2) x y r
+  out_added t R = rw ef (named (read_as R (λ v. passed v (out_on c l (first_of c.first_cross l2))) (λ u. refl)) (out_point (full x) x.rect (pass_of x c) ip l ip2 l2 (sym eb ∙ t)))
 
 module _ (x : Walker) (c : Pass) (ip : Point64) (l : Location) where
   module _ (ip2 : Point64) (l2 : Location) {y : Walker} {r : Result Unit Refusal} (R : Steps (pass_in (full x) x.rect (pass_of x c) ip2 l2) x y r) where
     abbrev go_out : (ℕ → Bool) → Rect64 → List Point64 → Walk → Try State
-    go_out full rect path w = pass_out full rect (placed w (record { loc = l; i = c.i })) c.pt ip ip2 (first_of c.first_cross l2)
+    go_out full rect path w = pass_out full rect (at_walk (pass_of x c) w) ip l ip2 l2
 
     pub to_lost : {why : Refusal} → r ≡ Err why → Advances (pass_to (full x) x.rect (pass_of x c) ip l ip2 l2) x y (Err why)
     to_lost e = named (step_lost R e (on go_out x)) (pass_parts (full x) x.rect (pass_of x c) ip l ip2 l2)
 
-    pub to_out : {u : Unit} → r ≡ Ok u → {f : Location} → f ≡ first_of c.first_cross l2 → {z : Walker} {a : Result ClosedState Refusal}
-        → Advances (pass_out (full y) y.rect (next_of y (record { loc = l; i = c.i })) c.pt ip ip2 f) y z a → Advances (pass_to (full x) x.rect (pass_of x c) ip l ip2 l2) x z a
-    to_out e ef A = named (step_then R e go_out (rw ef at A)) (pass_parts (full x) x.rect (pass_of x c) ip l ip2 l2)
+    pub to_out : {u : Unit} → r ≡ Ok u → {z : Walker} {a : Result ClosedState Refusal} → Advances (pass_out (full y) y.rect (pass_of y c) ip l ip2 l2) y z a → Advances (pass_to (full x) x.rect (pass_of x c) ip l ip2 l2) x z a
+    to_out e A = named (step_then R e go_out A) (pass_parts (full x) x.rect (pass_of x c) ip l ip2 l2)
 
   module _ {y : Walker} {a : Result ClosedState Refusal} where
-    pub passed_through : {q : SidePoint} → q ≡ second_search x.rect c.prev_pt c.pt c.prev ip → Advances (pass_to (full x) x.rect (pass_of x c) ip l q.point q.side) x y a → Advances (pass_through (full x) x.rect (pass_of x c) ip l) x y a
+    pub passed_through : {q : SidePoint} → q ≡ second_search x.rect c.segment.from c.segment.to c.prev ip → Advances (pass_to (full x) x.rect (pass_of x c) ip l q.point q.side) x y a → Advances (pass_through (full x) x.rect (pass_of x c) ip l) x y a
     passed_through e A = named A (through_second (full x) x.rect (pass_of x c) l ip e)
 
     -- ---- crossing the boundary, by where the segment comes from and goes to

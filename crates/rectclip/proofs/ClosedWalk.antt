@@ -2,9 +2,8 @@
 use mathlib.Core.Path.{◌≡◌, refl, sym, ◌∙◌, ap}
 use mathlib.Core.Bool.{Bool, true, false}
 use mathlib.Core.List.{List, [], ◌∷◌}
-use Prim.Native.Nat.{ℕ, suc, ◌+◌, ◌-◌, ◌/◌, ◌<◌, ◌≤◌}
+use Prim.Native.Nat.{ℕ, ◌+◌, ◌-◌, ◌/◌}
 use native.Mathlib.Omega.{arith}
-use lib.IntN.{ℤ}
 use lib.ListN.{length}
 use Rattle.plane.specs.declared.crossing.SidePoint.{SidePoint}
 use Rattle.plane.specs.Intersection.{found_at}
@@ -15,51 +14,18 @@ use Rattle.plane.specs.declared.location.Location.TheVariants.{Inside}
 use Rattle.plane.specs.declared.location.Spot.{Spot}
 use Rattle.plane.specs.Basics.{Try, is_nil, ◌>>=◌}
 use Rattle.plane.specs.Locations.{is_inside}
-use Rattle.plane.specs.Points.{pt_at, points_of}
+use Rattle.plane.specs.Points.{pt_at}
 use Rattle.plane.specs.Rectangle.{get_location}
 use Rattle.reference.specs.Walk.{Walk, State, nothing_yet, add_all, last_off, passes, after_while, walk_from, walk_closed}
 use Rattle.reference.specs.Walk as def
 use Rattle.entry.specs.declared.answer.Refusal.{Refusal}
 use Rattle.std.specs.Prelude.{Result, Ok, Option, None}
 use Rattle.rectclip.specs.declared.walk.Walker.{Walker}
-use Rattle.rectclip.specs.declared.outline.Round.{Round}
-use Rattle.rectclip.specs.declared.outline.Round.TheVariants.{Never}
 use Rattle.rectclip.specs.Steps.{walk, full, points, Answers, Steps}
 use Rattle.rectclip.specs.Outlining.{outline, Outlines}
 use Rattle.rectclip.proofs.Coordinates.{points_length}
 use Rattle.rectclip.proofs.Steps.{stays, named, read_as}
 use Rattle.rectclip.proofs.Outlining.{bare, plain}
-
--- ---- the last point off the edges
-pub record Seeking (rect : Rect64) (path : List ℤ) (n i : ℕ) : Type 0 where
-  pub goal : last_off rect (points_of path) i ≡ last_off rect (points_of path) n
-  pub here : i ≤ length path / 2
-
-module _ {rect : Rect64} {path : List ℤ} {n i : ℕ} (I : Seeking rect path n i) where
-  module _ (h : 0 < i) {p : Point64} (ep : p ≡ pt_at (points_of path) (i - 1)) {s : Spot} (es : s ≡ get_location rect p) where
-    spot_is : s ≡ get_location rect (pt_at (points_of path) (i - 1))
-    spot_is = es ∙ ap (get_location rect) ep
-
-    now_left : last_off rect (points_of path) (suc (i - 1)) ≡ last_off rect (points_of path) n
-    now_left = let e : suc (i - 1) ≡ i = omega arith in rw e I.goal
-
-    seen : s.off ≡ true → found_at (pt_at (points_of path) (i - 1)) s.loc ≡ last_off rect (points_of path) (suc (i - 1))
-    unfolding last_off
-    seen t = rw (← spot_is, t) refl
-
-    passed : s.off ≡ false → last_off rect (points_of path) (i - 1) ≡ last_off rect (points_of path) (suc (i - 1))
-    unfolding last_off
-    passed t = rw (← spot_is, t) refl
-
-    pub seek_found : s.off ≡ true → found_at p s.loc ≡ last_off rect (points_of path) n
-    seek_found t = ap (λ (o : Point64). found_at o s.loc) ep ∙ seen t ∙ now_left
-
-    pub seek_again : s.off ≡ false → Seeking rect path n (i - 1)
-    seek_again t = record { goal = passed t ∙ now_left; here = omega (arith, I.here) }
-
-  pub seek_ends : i ≡ 0 → None ≡ last_off rect (points_of path) n
-  unfolding last_off
-  seek_ends e = rw e at I.goal
 
 -- ---- the walk from a starting location
 abbrev pub begun : Location → Walk → State
@@ -105,7 +71,7 @@ module _ (x : Walker) (new : walk x ≡ nothing_yet) where
   abbrev whole : Try def.Walked
   whole = walk_closed (full x) x.rect (points x)
 
-  pub walk_none : length x.path.now / 2 ≡ 0 → Outlines whole x x (Ok Never)
+  pub walk_none : length x.path.now / 2 ≡ 0 → Outlines whole x x (Ok None)
   walk_none e = stays (ap plain new ∙ closed_nil (full x) x.rect (points x) (nil_is (points x) (points_length x.path.now ∙ e)))
 
   module _ (h : length x.path.now / 2 ≡ 0 → ⊥) {p : Point64} (ep : p ≡ pt_at (points x) (length x.path.now / 2 - 1)) {s : Spot} (es : s ≡ get_location x.rect p) where
@@ -115,17 +81,17 @@ module _ (x : Walker) (new : walk x ≡ nothing_yet) where
     last_spot : s ≡ get_location x.rect (pt_at (points x) (length (points x) - 1))
     last_spot = rw (points_length x.path.now) (es ∙ ap (get_location x.rect) ep)
 
-    pub walk_off : s.off ≡ true → {y : Walker} {r : Result Round Refusal} → Outlines (walk_from (full x) x.rect (points x) s.loc) x y r → Outlines whole x y r
+    pub walk_off : s.off ≡ true → {y : Walker} {r : Result (Option Bool) Refusal} → Outlines (walk_from (full x) x.rect (points x) s.loc) x y r → Outlines whole x y r
     walk_off t A = named A (closed_off (full x) x.rect (points x) has_points last_spot t)
 
     module _ (t : s.off ≡ false) {f : Option SidePoint} (ef : f ≡ last_off x.rect (points x) (length x.path.now / 2 - 1)) where
       search_is : {o : Option SidePoint} → f ≡ o → last_off x.rect (points x) (length (points x) - 1) ≡ o
       search_is e = rw (points_length x.path.now) (sym ef ∙ e)
 
-      pub walk_edges : f ≡ None → {y : Walker} {r : Result Unit Refusal} → Steps (add_all (full x) (walk x) (points x)) x y r → Answers (λ y u. outline y Never) whole x y r
+      pub walk_edges : f ≡ None → {y : Walker} {r : Result Unit Refusal} → Steps (add_all (full x) (walk x) (points x)) x y r → Answers (λ y u. outline y None) whole x y r
       walk_edges e R = named (read_as (rw new at R) bare (λ u. refl)) (closed_edges (full x) x.rect (points x) has_points last_spot t (search_is e))
 
-      module _ {q : Point64} {prev : Location} (e : f ≡ found_at q prev) {b : Bool} (eb : b ≡ is_inside prev) {y : Walker} {r : Result Round Refusal} where
+      module _ {q : Point64} {prev : Location} (e : f ≡ found_at q prev) {b : Bool} (eb : b ≡ is_inside prev) {y : Walker} {r : Result (Option Bool) Refusal} where
         pub walk_inside : b ≡ true → Outlines (walk_from (full x) x.rect (points x) Inside) x y r → Outlines whole x y r
         walk_inside v A = named A (closed_in (full x) x.rect (points x) has_points last_spot t (search_is e) (sym eb ∙ v))
 

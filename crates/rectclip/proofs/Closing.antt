@@ -103,13 +103,16 @@ pub in_parts : (full : ℕ → Bool) (rect : Rect64) (c : def.Pass) (ip2 : Point
 unfolding pass_in
 in_parts full rect c ip2 loc = refl
 
-module _ (full : ℕ → Bool) (rect : Rect64) (at : def.Next) (pt ip ip2 : Point64) (f : Location) where
-  pub out_corner : same_point ip ip2 ≡ true → (on : Location) → on ≡ (get_location rect pt).loc
-      → (add_corner_prev_curr full rect at.walk at.loc on >>= λ w. ok (record { walk = w; i = at.i; loc = on; crossing_loc = on; first_cross = f })) ≡ pass_out full rect at pt ip ip2 f
+module _ (full : ℕ → Bool) (rect : Rect64) (c : def.Pass) (ip : Point64) (x : Location) (ip2 : Point64) (loc : Location) where
+  -- the state behind it
+  abbrev gone : Location → Walk → State
+  gone l w = record { walk = w; i = c.i; loc = l; crossing_loc = l; first_cross = first_of c.first_cross loc }
+
+  pub out_corner : same_point ip ip2 ≡ true → (on : Location) → on ≡ (get_location rect c.pt).loc → (add_corner_prev_curr full rect c.walk x on >>= λ w. ok (gone on w)) ≡ pass_out full rect c ip x ip2 loc
   unfolding pass_out
   out_corner e on h = rw (e, h) refl
 
-  pub out_point : same_point ip ip2 ≡ false → (add full at.walk ip false >>= λ w. ok (record { walk = w; i = at.i; loc = at.loc; crossing_loc = at.loc; first_cross = f })) ≡ pass_out full rect at pt ip ip2 f
+  pub out_point : same_point ip ip2 ≡ false → (add full c.walk ip false >>= λ w. ok (gone x w)) ≡ pass_out full rect c ip x ip2 loc
   unfolding pass_out
   out_point e = rw e refl
 
@@ -121,11 +124,15 @@ pub bind_ap : {A B : Type 0} (t : Try A) (f g : A → Try B) → ((a : A) → f 
 bind_ap (refuse n) f g e = refl
 bind_ap (ok a) f g e = e a
 
+-- a pass, with another walk
+abbrev pub at_walk : def.Pass → Walk → def.Pass
+at_walk c w = record { walk = w; i = c.i; prev = c.prev; loc = c.loc; crossing_prev = c.crossing_prev; first_cross = c.first_cross; prev_pt = c.prev_pt; pt = c.pt }
+
 pub pass_parts : (full : ℕ → Bool) (rect : Rect64) (c : def.Pass) (ip : Point64) (x : Location) (ip2 : Point64) (loc : Location)
-    → (pass_in full rect c ip2 loc >>= λ w. pass_out full rect (record { walk = w; loc = x; i = c.i }) c.pt ip ip2 (first_of c.first_cross loc)) ≡ pass_to full rect c ip x ip2 loc
+    → (pass_in full rect c ip2 loc >>= λ w. pass_out full rect (at_walk c w) ip x ip2 loc) ≡ pass_to full rect c ip x ip2 loc
 unfolding pass_in pass_to pass_out pass_corner pass_start
 pass_parts full rect c ip x ip2 loc =
-    let out : Walk → Try State = λ w. pass_out full rect (record { walk = w; loc = x; i = c.i }) c.pt ip ip2 (first_of c.first_cross loc) in
+    let out : Walk → Try State = λ w. pass_out full rect (at_walk c w) ip x ip2 loc in
     bind_assoc (pass_corner full rect c.walk c.crossing_prev loc) (λ w. pass_start full w c.first_cross c.prev >>= λ v. add full v ip2 false) out
     ∙ bind_ap (pass_corner full rect c.walk c.crossing_prev loc) (λ w. pass_start full w c.first_cross c.prev >>= (λ v. add full v ip2 false) >>= out) (λ w. pass_start full w c.first_cross c.prev >>= λ v. add full v ip2 false >>= out)
     (λ w. bind_assoc (pass_start full w c.first_cross c.prev) (λ v. add full v ip2 false) out)

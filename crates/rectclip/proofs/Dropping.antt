@@ -1,5 +1,5 @@
 -- The loops that drop nodes on a line with their neighbours, over the work list, are the definition's, pass by pass. Assumes nothing.
-use Rattle.std.specs.Prelude.{Option, None, Some}
+use Rattle.std.specs.Prelude.{Option, None, Some, MatchOption}
 use mathlib.Core.Path.{◌≡◌, refl, sym, ◌∙◌, ap}
 use mathlib.Core.Bool.{Bool, true, false, not, ◌&&◌, ◌||◌}
 use mathlib.Core.List.{List}
@@ -15,7 +15,7 @@ use Rattle.reference.specs.Arena as reference
 use Rattle.reference.specs.Clip.{straighten_pass}
 use Rattle.rectclip.specs.declared.arena.Arena as lent
 use Rattle.rectclip.specs.declared.rings.Neighbours.{Neighbours}
-use Rattle.rectclip.specs.declared.rings.Round.{Round}
+use Rattle.rectclip.specs.declared.rings.RingPlace.{RingPlace}
 use Rattle.rectclip.specs.Arenas.{mark}
 use Rattle.rectclip.specs.Changes.{arena_of, pts_of, Leaves}
 use Rattle.rectclip.specs.Rings.{Unlinked, Passed, Dropped}
@@ -29,7 +29,7 @@ pub or_true : (b : Bool) → (b || true) ≡ true
 or_true true = refl
 or_true false = refl
 
-abbrev pub at_nodes : ℕ → Option ℕ → Round
+abbrev pub at_nodes : ℕ → Option ℕ → RingPlace
 at_nodes op op2 = record { op = op; op2 = op2 }
 
 -- ---- one pass
@@ -57,6 +57,12 @@ module _ (pts : List Point64) {m : lent.Arena} (op x : ℕ) where
     pub straighten_dropped : (u : Neighbours) → Unlinked m m' x (Some u) → (p : ℕ) → p ≡ prev_of (arena_of m) x → p < m.sizes.nodes → Passed m m' (at_nodes p (Some u.next)) (straighten_pass pts (arena_of m) op x)
     unfolding straighten_pass
     straighten_dropped u k p e h = rw (← told, f) (record { leaves = k.leaves; op = e; op2 = k.next; op_in = h; op2_in = k.within.1 })
+
+    -- either way
+    pub straighten_unlinked : (u : Option Neighbours) (r : Option ℕ) → MatchOption u (r ≡ None) (λ n. r ≡ Some n.next) → Unlinked m m' x u → (p : ℕ) → p ≡ prev_of (arena_of m) x → p < m.sizes.nodes
+        → Passed m m' (at_nodes p r) (straighten_pass pts (arena_of m) op x)
+    straighten_unlinked None r e k p h l = rw e (straighten_alone k p h l)
+    straighten_unlinked (Some n) r e k p h l = rw e (straighten_dropped n k p h l)
 
     module _ (op_in : op < m.sizes.nodes) where
       pub drop_last : Unlinked m m' x None → Passed m m' (at_nodes op None) (drop_collinear_pass pts (arena_of m) op x)
@@ -102,7 +108,7 @@ pub record Dropping (count : ℕ) (m₀ : lent.Arena) (op₀ x₀ : ℕ) (m : le
   pub here : x < m.sizes.nodes
 
 -- a pass is of the points that there were at the start
-pub first_points : {m₀ m m' : lent.Arena} {r : Round} (f : List Point64 → Arena → reference.Round) → Leaves m₀ m (arena_of m) → Passed m m' r (f (pts_of m) (arena_of m)) → Passed m m' r (f (pts_of m₀) (arena_of m))
+pub first_points : {m₀ m m' : lent.Arena} {r : RingPlace} (f : List Point64 → Arena → reference.Round) → Leaves m₀ m (arena_of m) → Passed m m' r (f (pts_of m) (arena_of m)) → Passed m m' r (f (pts_of m₀) (arena_of m))
 first_points {m = m} f k p = rw (points_stay (becomes_left k)) at p
 
 module _ {count : ℕ} {m₀ : lent.Arena} {op₀ x₀ : ℕ} {m : lent.Arena} {op x left : ℕ} (I : Dropping count m₀ op₀ x₀ m op x left) where
@@ -116,7 +122,7 @@ module _ {count : ℕ} {m₀ : lent.Arena} {op₀ x₀ : ℕ} {m : lent.Arena} {
     on : {m' : lent.Arena} {b : Arena} → Leaves m m' b → Leaves m₀ m' b
     on {b = b} l = then_leaves (λ _ _ _. b) I.so_far l
 
-    module _ {m' : lent.Arena} (r : Round) (p : Passed m m' r (drop_collinear_pass (pts_of m) (arena_of m) op x)) where
+    module _ {m' : lent.Arena} (r : RingPlace) (p : Passed m m' r (drop_collinear_pass (pts_of m) (arena_of m) op x)) where
       q : Passed m m' r (drop_collinear_pass pts (arena_of m) op x)
       q = first_points (λ t a. drop_collinear_pass t a op x) I.so_far p
 
@@ -136,7 +142,7 @@ module _ {count : ℕ} {m₀ : lent.Arena} {op₀ x₀ : ℕ} {m : lent.Arena} {
       last : (mark r.op2 ≡ none) ⊎ (mark r.op2 ≡ r.op) → drop_collinear_pass pts (arena_of m) op x ≡ drop_collinear pts count (arena_of m₀) op₀ x₀
       last t = sym (drop_ends pts left' (arena_of m) op x (⊎_elim (λ w. inl (sym q.op2 ∙ w)) (λ w. inr (sym q.op2 ∙ w ∙ q.op)) t)) ∙ whole
 
-  module _ (h : 0 < left) {m' : lent.Arena} (r : Round) (p : Passed m m' r (drop_collinear_pass (pts_of m) (arena_of m) op x)) where
+  module _ (h : 0 < left) {m' : lent.Arena} (r : RingPlace) (p : Passed m m' r (drop_collinear_pass (pts_of m) (arena_of m) op x)) where
     one : left ≡ suc (left - 1)
     one = omega arith
 

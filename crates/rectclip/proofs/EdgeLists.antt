@@ -1,49 +1,63 @@
 -- A node that enters an edge list over the work list, and "Assign edges" with it, are the definition's. Assumes nothing.
-use Rattle.std.specs.Prelude.{if◌then◌else◌}
+use Rattle.std.specs.Prelude.{Option, None, Some, if◌then◌else◌}
+use Rattle.std.specs.Option.{is_some}
 use mathlib.Core.Path.{◌≡◌, refl, sym, ◌∙◌, ap}
 use mathlib.Core.Bool.{Bool, true, false}
 use mathlib.Core.List.{List}
-use Prim.Native.Nat.{ℕ, suc, ◌+◌, ◌*◌, ◌-◌, ◌<◌}
+use Prim.Native.Nat.{ℕ, suc, ◌+◌, ◌*◌, ◌-◌, ◌<◌, ◌≤◌}
 use native.Mathlib.Omega.{arith}
+use native.Mathlib.Numerals.{add-one}
 use borrow.Author.Tests.{eq-eqb, ne_eqb}
 use Rattle.plane.specs.declared.point.Point64.{Point64}
 use Rattle.plane.specs.declared.rect.Rect64.{Rect64}
 use Rattle.plane.specs.declared.location.Location.{Location}
-use Rattle.plane.specs.Basics.{none, push}
+use Rattle.plane.specs.Basics.{none, push, upwards}
 use Rattle.plane.specs.Locations.{side}
 use Rattle.plane.specs.Signs.{is_heading_clockwise}
 use Rattle.plane.specs.Rectangle.{get_edges_for_pt, has_edge}
-use Rattle.reference.specs.Arena.{Arena, pt_of, next_of, prev_of, edge_of, edge_list, set_edge, set_edge_list, add_to_edge, assign_side, assign_edges}
+use Rattle.reference.specs.Arena.{Arena, pt_of, next_of, prev_of, edge_of, edge_list, set_edge, set_edge_list, add_to_edge, assign_side, assign_sides, assign_edges}
 use Rattle.rectclip.specs.declared.arena.Arena as lent
-use Rattle.rectclip.specs.Arenas.{longer_list}
+use Rattle.rectclip.specs.declared.side.EdgeList.{EdgeList}
+use Rattle.rectclip.specs.Arenas.{list_mark, longer_list}
 use Rattle.rectclip.specs.Changes.{arena_of, pts_of, Leaves, Grows, Enters}
 use Rattle.rectclip.specs.Edges.{Entering, Assigning, assign_node}
 use Rattle.rectclip.proofs.Spare.{spare_room, spare_entered, spare_slots}
 use Rattle.rectclip.proofs.Changes.{nodes_many, list_long, becomes_left, becomes_entry, enters_same, enters_renamed, points_stay, then_becomes, then_enters}
 
--- ---- add_to_edge
-module _ {m : lent.Arena} {e op : ℕ} (x : Entering m e op) where
-  pub entered_before : (v : ℕ) → v ≡ edge_of (arena_of m) op → v < 8 → Enters m m (add_to_edge (arena_of m) e op)
-  unfolding add_to_edge
-  entered_before v h l = rw (ne_eqb (edge_of (arena_of m) op) none (λ w. omega (arith, h, w))) enters_same
+-- ---- a node that is in a list, and one that is in none
+some_edge : (v : Option EdgeList) → is_some v ≡ true → list_mark v ≡ none → ⊥
+some_edge (Some l) t w = omega (arith, l.within, w)
+some_edge None t w = cc
 
-  pub entered : none ≡ edge_of (arena_of m) op → {m₁ m₂ : lent.Arena} → Leaves m m₁ (set_edge (arena_of m) op e)
+no_edge : (v : Option EdgeList) → is_some v ≡ false → list_mark v ≡ none
+no_edge (Some l) t = cc
+no_edge None t = refl
+
+-- ---- add_to_edge
+module _ {m : lent.Arena} {l : EdgeList} {op : ℕ} (x : Entering m l op) where
+  abbrev e : ℕ
+  e = l.idx
+
+  pub entered_before : (v : Option EdgeList) → list_mark v ≡ edge_of (arena_of m) op → is_some v ≡ true → Enters m m (add_to_edge (arena_of m) e op)
+  unfolding add_to_edge
+  entered_before v h t = rw (ne_eqb (edge_of (arena_of m) op) none (λ w. some_edge v t (h ∙ w))) enters_same
+
+  pub entered : (v : Option EdgeList) → list_mark v ≡ edge_of (arena_of m) op → is_some v ≡ false → {m₁ m₂ : lent.Arena} → Leaves m m₁ (set_edge (arena_of m) op e)
       → Grows m₁ m₂ (longer_list m₁.sizes e) (set_edge_list (arena_of m₁) e (push (edge_list (arena_of m₁) e) op)) → Enters m m₂ (add_to_edge (arena_of m) e op)
   unfolding add_to_edge set_edge
-  entered h {m₁} k g =
-      let f : edge_of (arena_of m) op ≡ none = sym h in
+  entered v h t {m₁} k g =
+      let f : edge_of (arena_of m) op ≡ none = sym h ∙ no_edge v t in
       rw (eq-eqb (edge_of (arena_of m) op) none f)
       (record {
-        becomes = then_becomes (λ _ _ b. set_edge_list b e (push (edge_list b e) op)) (becomes_left k) (becomes_entry e (omega (arith, m₁.holds.eight, x.list_in)) g);
-        spare = λ N n S. spare_entered S e op x.list_in (omega (arith, nodes_many m, x.op_in)) f;
+        becomes = then_becomes (λ _ _ b. set_edge_list b e (push (edge_list b e) op)) (becomes_left k) (becomes_entry e (omega (arith, m₁.holds.eight, l.within)) g);
+        spare = λ N n S. spare_entered S e op l.within (omega (arith, nodes_many m, x.op_in)) f;
       })
 
 -- ---- assign_side
-pub may_enter : {m : lent.Arena} {op : ℕ} → Assigning m op → (e : ℕ) → e < 8 → Entering m e op
-may_enter {m = m} {op = op} x e h = record {
-  list_in = h;
+pub may_enter : {m : lent.Arena} {op : ℕ} → Assigning m op → (l : EdgeList) → Entering m l op
+may_enter {m = m} {op = op} x l = record {
   op_in = x.op_in;
-  room = λ q. omega (arith, spare_room x.spare e op h (omega (arith, nodes_many m, x.op_in)) q, list_long m e h);
+  room = λ q. omega (arith, spare_room x.spare l.idx op l.within (omega (arith, nodes_many m, x.op_in)) q, list_long m l.idx l.within);
 }
 
 module _ (pts : List Point64) (a : Arena) (op set1 set2 j : ℕ) where
@@ -55,12 +69,12 @@ module _ (pts : List Point64) (a : Arena) (op set1 set2 j : ℕ) where
   unfolding assign_side
   assign_one h g = rw (h, g) refl
 
-  pub assign_both : has_edge j set1 ≡ true → has_edge j set2 ≡ true → (prev : ℕ) (p q : Point64) (l : Location) (c t : Bool) → prev ≡ prev_of a op → p ≡ pt_of pts prev → q ≡ pt_of pts op
-      → l ≡ side j → c ≡ is_heading_clockwise p q l → c ≡ t → add_to_edge a (if t then 2 * j else 2 * j + 1) op ≡ assign_side pts a op set1 set2 j
+  pub assign_both : has_edge j set1 ≡ true → has_edge j set2 ≡ true → (prev : ℕ) (p q : Point64) (l : Location) (c : Bool) (e : ℕ) → prev ≡ prev_of a op → p ≡ pt_of pts prev → q ≡ pt_of pts op
+      → l ≡ side j → c ≡ is_heading_clockwise p q l → e ≡ (if c then 2 * j else 2 * j + 1) → add_to_edge a e op ≡ assign_side pts a op set1 set2 j
   unfolding assign_side
-  assign_both h g prev p q l c t e e₁ e₂ e₃ e₄ e₅ =
-      let w : is_heading_clockwise (pt_of pts (prev_of a op)) (pt_of pts op) (side j) ≡ t = (λ i. is_heading_clockwise (sym (e₁ ∙ ap (pt_of pts) e) i) (sym e₂ i) (sym e₃ i)) ∙ sym e₄ ∙ e₅ in
-      rw (h, g, w) refl
+  assign_both h g prev p q l c e e₀ e₁ e₂ e₃ e₄ e₅ =
+      let w : is_heading_clockwise (pt_of pts (prev_of a op)) (pt_of pts op) (side j) ≡ c = (λ i. is_heading_clockwise (sym (e₁ ∙ ap (pt_of pts) e₀) i) (sym e₂ i) (sym e₃ i)) ∙ sym e₄ in
+      rw (h, g, w) (ap (λ (x : ℕ). add_to_edge a x op) e₅)
 
 -- ---- assign_node
 pub assigning_on : {m m₁ : lent.Arena} {op : ℕ} {b : Arena} → Assigning m op → Enters m m₁ b → Assigning m₁ op
@@ -75,20 +89,34 @@ module _ {m : lent.Arena} {op : ℕ} (x : Assigning m op) (set1 set2 : ℕ) wher
   node_off e = rw (eq-eqb set2 0 e) enters_same
 
   module _ (q : set2 ≡ 0 → ⊥) where
-    pub node_before : (v : ℕ) → v ≡ edge_of (arena_of m) op → v < 8 → Enters m m (assign_node (pts_of m) (arena_of m) op set1 set2)
+    pub node_before : (v : Option EdgeList) → list_mark v ≡ edge_of (arena_of m) op → is_some v ≡ true → Enters m m (assign_node (pts_of m) (arena_of m) op set1 set2)
     unfolding assign_node
-    node_before v h l = rw (ne_eqb set2 0 q, ne_eqb (edge_of (arena_of m) op) none (λ w. omega (arith, h, w))) enters_same
+    node_before v h t = rw (ne_eqb set2 0 q, ne_eqb (edge_of (arena_of m) op) none (λ w. some_edge v t (h ∙ w))) enters_same
 
-    pub node_on : none ≡ edge_of (arena_of m) op → {m₁ m₂ m₃ m₄ : lent.Arena}
-        → Enters m m₁ (assign_side (pts_of m) (arena_of m) op set1 set2 0)
-        → Enters m₁ m₂ (assign_side (pts_of m₁) (arena_of m₁) op set1 set2 1)
-        → Enters m₂ m₃ (assign_side (pts_of m₂) (arena_of m₂) op set1 set2 2)
-        → Enters m₃ m₄ (assign_side (pts_of m₃) (arena_of m₃) op set1 set2 3)
-        → Enters m m₄ (assign_node (pts_of m) (arena_of m) op set1 set2)
+    -- the sides in their order
+    pub node_on : (v : Option EdgeList) → list_mark v ≡ edge_of (arena_of m) op → is_some v ≡ false → {m₁ : lent.Arena} → Enters m m₁ (assign_sides (pts_of m) (arena_of m) op set1 set2 (upwards 0 4)) → Enters m m₁ (assign_node (pts_of m) (arena_of m) op set1 set2)
     unfolding assign_node
-    node_on h k₀ k₁ k₂ k₃ =
-        rw (ne_eqb set2 0 q, eq-eqb (edge_of (arena_of m) op) none (sym h))
-        (then_enters (λ pts _ a. assign_side pts a op set1 set2 3) (then_enters (λ pts _ a. assign_side pts a op set1 set2 2) (then_enters (λ pts _ a. assign_side pts a op set1 set2 1) k₀ k₁) k₂) k₃)
+    node_on v h t k = rw (ne_eqb set2 0 q, eq-eqb (edge_of (arena_of m) op) none (sym h ∙ no_edge v t)) k
+
+-- at the head of the loop, at side j
+pub record AssignedTo (op set1 set2 : ℕ) (m₀ m : lent.Arena) (j : ℕ) : Type 0 where
+  pub goal : assign_sides (pts_of m₀) (arena_of m) op set1 set2 (upwards j (4 - j)) ≡ assign_sides (pts_of m₀) (arena_of m₀) op set1 set2 (upwards 0 4)
+  pub so_far : Enters m₀ m (arena_of m)
+
+module _ {op set1 set2 : ℕ} {m₀ m : lent.Arena} {j : ℕ} (I : AssignedTo op set1 set2 m₀ m j) where
+  pub assigned_on : j < 4 → {m₁ : lent.Arena} → Enters m m₁ (assign_side (pts_of m) (arena_of m) op set1 set2 j) → AssignedTo op set1 set2 m₀ m₁ (j + 1)
+  assigned_on h k =
+      let one : 4 - j ≡ suc (4 - (j + 1)) = omega arith in
+      let e = ap (λ (t : List Point64). assign_side t (arena_of m) op set1 set2 j) (points_stay I.so_far.becomes) in
+      record {
+        goal = rw (add-one j) (ap (λ a. assign_sides (pts_of m₀) a op set1 set2 (upwards (suc j) (4 - suc j))) (k.becomes.is ∙ e)) ∙ rw one at I.goal;
+        so_far = enters_renamed (then_enters (λ t _ a. assign_side t a op set1 set2 j) I.so_far k) (sym (k.becomes.is ∙ e));
+      }
+
+  pub assigned_all : 4 ≤ j → Enters m₀ m (assign_sides (pts_of m₀) (arena_of m₀) op set1 set2 (upwards 0 4))
+  assigned_all h =
+      let z : 4 - j ≡ 0 = omega arith in
+      enters_renamed I.so_far (rw z at I.goal)
 
 -- ---- assign_edges
 module _ (pts : List Point64) (rect : Rect64) where

@@ -1,6 +1,6 @@
 -- The path goes round the rectangle: the four corners are added one after the other, and since neighbours differ, they are the last
 -- four points of the walk. Assumes nothing.
-use Rattle.std.specs.Prelude.{if◌then◌else◌}
+use Rattle.std.specs.Prelude.{if◌then◌else◌, Some}
 use mathlib.Core.Path.{◌≡◌, refl, sym, ◌∙◌, ap, subst}
 use mathlib.Core.Bool.{Bool, true, false, ◌&&◌}
 use mathlib.Core.List.{List, [], ◌∷◌}
@@ -19,7 +19,7 @@ use Rattle.plane.specs.Points.{same_point, pt_at}
 use Rattle.plane.specs.Rectangle.{is_empty, corner}
 use Rattle.reference.specs.Walk.{Walk, add, add_all, add_round}
 use Rattle.reference.specs.Walk as def
-use Rattle.rectclip.specs.Outlining.{entered_of, round_of, round_corners}
+use Rattle.rectclip.specs.Outlining.{entered_of, round_corners}
 use Rattle.rectclip.proofs.Walking.{on_ok}
 use Rattle.rectclip.proofs.Added.{Added, added}
 use Rattle.theorems.proofs.Tests.{neither}
@@ -139,7 +139,7 @@ module _ (full : ℕ → Bool) (rect : Rect64) where
   high e = (neither (le_z rect.right rect.left) (le_z rect.bottom rect.top) e).1
 
   pub round_done : (cw : Bool) → is_empty rect ≡ false → (s : Walk) {v : Walk} → ok v ≡ add_all full s (round_corners rect cw)
-      → (ok (record { walk = v; entered = entered_of (length v.points) (round_of cw) }) ≡ add_round full rect s [] (order cw)) × (4 ≤ length v.points)
+      → (ok (record { walk = v; entered = entered_of (length v.points) (Some cw) }) ≡ add_round full rect s [] (order cw)) × (4 ≤ length v.points)
   unfolding add_round
   round_done true e s f =
       four_done full (corner rect Left) (corner rect Top) (corner rect Right) (corner rect Bottom) 0 2 4 6

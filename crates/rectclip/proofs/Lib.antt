@@ -30,9 +30,13 @@ pub mod Coordinates
 pub mod Passing
 pub mod Crossing
 pub mod Opening
+pub mod Positions
+pub mod OffEdges
 pub mod Results
 pub mod Writing
+pub mod WritePieces
 pub mod Delivering
+pub mod Calls
 pub mod Calling
 pub mod Entering
 pub mod Arenas
@@ -62,7 +66,6 @@ pub mod Later
 pub mod EdgeLists
 pub mod Turns
 pub mod Executing
-pub mod Filling
 pub mod WalkedArena
 pub mod OutlineClips
 pub mod Handing

@@ -12,24 +12,21 @@ use Rattle.plane.specs.declared.location.Location.TheVariants.{Inside}
 use Rattle.plane.specs.Basics.{Try, ok}
 use Rattle.plane.specs.Locations.{is_inside}
 use Rattle.plane.specs.Points.{pt_at}
-use Rattle.reference.specs.Walk.{Walk, Next, add, next_outside, next_inside, get_next_location}
+use Rattle.reference.specs.Walk.{Next, add, next_outside, next_inside, get_next_location}
 use Rattle.entry.specs.declared.answer.Refusal.{Refusal}
 use Rattle.std.specs.Prelude.{Result, Ok, Err}
 use Rattle.rectclip.specs.declared.next.Place.{Place}
-use Rattle.rectclip.specs.Moving.{exit_side, placed}
+use Rattle.rectclip.specs.Moving.{exit_side}
 use Rattle.rectclip.specs.declared.walk.Walker.{Walker}
-use Rattle.rectclip.specs.Steps.{walk, full, points, Same, Steps, Moves}
+use Rattle.rectclip.specs.Steps.{walk, full, points, next_of, Same, Steps, Moves}
 use Rattle.rectclip.proofs.Steps.{same_refl, on_same, stays}
 use Rattle.rectclip.proofs.Steps as steps
 use Rattle.rectclip.proofs.Coordinates.{points_length}
-use Rattle.rectclip.proofs.Scanning.{outside_forth, next_as_outside, inside_out, inside_go, inside_stop, inside_end}
+use Rattle.rectclip.proofs.Scanning.{next_as_outside, inside_out, inside_go, inside_stop, inside_end}
 
-pub outside_went : (x : Walker) (loc : Location) (from : ℕ) {r : Place} → is_inside loc ≡ false → ((w : Walk) → placed w r ≡ next_outside x.rect (points x) w loc from)
+pub outside_went : (x : Walker) (loc : Location) (from : ℕ) {r : Place} → is_inside loc ≡ false → next_of x r ≡ next_outside x.rect (points x) (walk x) loc from
     → Moves (get_next_location (full x) x.rect (points x) (walk x) loc from) x x (Ok r)
-outside_went x loc from h e = stays (ap ok (e (walk x)) ∙ next_as_outside _ x.rect (points x) (walk x) loc from h)
-
-pub outside_goes_on : (x : Walker) (loc : Location) (from : ℕ) {r : Place} → ((w : Walk) → placed w r ≡ next_outside x.rect (points x) w loc from) → from ≤ r.i
-outside_goes_on x loc from e = rw (ap (λ (n : Next). n.i) (e (walk x))) (outside_forth x.rect (points x) (walk x) loc from)
+outside_went x loc from h e = stays (ap ok e ∙ next_as_outside _ x.rect (points x) (walk x) loc from h)
 
 -- from inside, point i of n is next
 pub record Inward (x : Walker) (from n : ℕ) (y : Walker) (i : ℕ) : Type 0 where
@@ -46,22 +43,19 @@ module _ {x : Walker} {from n : ℕ} {y : Walker} {i : ℕ} (I : Inward x from n
   many : length (points x) ≡ n
   many = points_length x.path.now ∙ ap (λ (l : List ℤ). length l / 2) (sym I.same.path) ∙ sym I.end
 
-  module _ (h : i < n) {p : Point64} (ep : p ≡ pt_at (points y) i) {q : Location} (eq : q ≡ exit_side y.rect p) {b : Bool} (eb : b ≡ is_inside q) where
+  module _ (h : i < n) {p : Point64} (ep : p ≡ pt_at (points x) i) {q : Location} (eq : q ≡ exit_side y.rect p) {b : Bool} (eb : b ≡ is_inside q) where
     within : i < length (points x)
     within = rw many h
 
-    point_is : p ≡ pt_at (points x) i
-    point_is = ep ∙ on_same (λ full rect path. pt_at path i) I.same
-
     exit_is : q ≡ exit_side x.rect (pt_at (points x) i)
-    exit_is = eq ∙ (λ j. exit_side (I.same.rect j) (point_is j))
+    exit_is = eq ∙ (λ j. exit_side (I.same.rect j) (ep j))
 
     pub inward_exits : b ≡ false → Moves all_inside x y (Ok (record { loc = q; i = i }))
     inward_exits t = record { same = I.same; is = rw exit_is (inside_out _ x.rect (points x) (walk y) i within (rw exit_is at (sym eb ∙ t)) ∙ I.goal) }
 
     module _ (t : b ≡ true) {z : Walker} {r : Result Unit Refusal} (R : Steps (add (full y) (walk y) p false) y z r) where
       one : Steps (add (full x) (walk y) (pt_at (points x) i) false) x z r
-      one = rw point_is at (steps.after (λ full rect path. add full (walk y) p false) I.same R)
+      one = rw ep at (steps.after (λ full rect path. add full (walk y) p false) I.same R)
 
       pub inward_on : {u : Unit} → r ≡ Ok u → Inward x from n z (i + 1)
       inward_on e = record {

@@ -2,8 +2,7 @@
 use mathlib.Core.Path.{◌≡◌, refl, sym, ◌∙◌, ap}
 use mathlib.Core.Bool.{Bool, true, false}
 use mathlib.Core.List.{List}
-use Prim.Native.Nat.{ℕ, ◌+◌, ◌/◌, ◌<◌, ◌≤◌}
-use native.Mathlib.Omega.{arith}
+use Prim.Native.Nat.{ℕ, ◌/◌, ◌<◌, ◌≤◌}
 use borrow.Author.Tests.{lt-ltb, le-ltb}
 use lib.Dec.{ltb}
 use lib.IntN.{ℤ}
@@ -23,8 +22,8 @@ use Rattle.reference.specs.Walk.{Walk, no_room, nothing_yet, add_all}
 use Rattle.reference.specs.Lines.{first_off_edge, line_walk_from, walk_open}
 use Rattle.rectclip.specs.declared.walk.WalkState.{WalkState}
 use Rattle.std.specs.Prelude.{Option, None}
-use Rattle.rectclip.specs.Memory.{Room, from, column}
-use Rattle.rectclip.specs.Walking.{walk_of, Fits}
+use Rattle.rectclip.specs.Memory.{from, column}
+use Rattle.rectclip.specs.Walking.{walk_of}
 use Rattle.rectclip.specs.Crossing.{all_passes, first_point}
 use Rattle.rectclip.proofs.Coordinates.{points_length}
 
@@ -35,18 +34,6 @@ fresh = record { points = 0; starts = 0; start_locs = 0 }
 pub walk_fresh : (store : List ℤ) (work : List ℕ) → walk_of store work fresh ≡ nothing_yet
 unfolding walk_of column from
 walk_fresh store work = refl
-
-pub fits_fresh : {store : List ℤ} {work : List ℕ} → Room (length store / 2 + 1) work → length store / 2 ≤ 65536 → Fits store work fresh
-fits_fresh R h = record {
-  room = R;
-  few = h;
-  points = omega arith;
-  starts = omega arith;
-  start_locs = omega arith;
-  begun = λ i q. absurd (omega arith);
-  rising = λ i q. absurd (omega arith);
-  near = λ i q. absurd (omega arith);
-}
 
 -- ---- the passes from there
 -- the passes from a starting location

@@ -26,6 +26,7 @@ use Rattle.entry.specs.declared.answer.Refusal.{Refusal}
 use Rattle.rectclip.specs.declared.arena.Arena as lent
 use Rattle.rectclip.specs.declared.clipping.Clipped.{Clipped}
 use Rattle.rectclip.specs.declared.outline.Outline.{Outline}
+use Rattle.rectclip.specs.declared.call.Call.{Call}
 use Rattle.rectclip.specs.Walking.{Fits}
 use Rattle.rectclip.specs.Arenas.{Spare}
 use Rattle.rectclip.specs.Changes.{pts_of}
@@ -39,7 +40,7 @@ use Rattle.rectclip.proofs.Adding.{walk_points, walk_length}
 use Rattle.rectclip.proofs.Coordinates.{points_length}
 use Rattle.rectclip.proofs.Spare.{spare_slots}
 use Rattle.rectclip.proofs.Later.{read_later}
-use Rattle.rectclip.proofs.Filling.{points_count, paths_count}
+use Rattle.rectclip.proofs.Counting.{points_count, paths_count}
 
 -- ---- of the definition alone
 -- the sides tidied, and then the paths
@@ -86,22 +87,22 @@ walk_drawn {store} {work} o F = record {
       rw e (F.near i h);
 }
 
-module _ {rect : Rect64} {A : ℕ} {store : List ℤ} {work : List ℕ} {o : Outline} (x : OutlineClips rect A store work o) where
+module _ (c : Call) {o : Outline} (x : OutlineClips c o) where
   abbrev w : Walked
-  w = walked_of store work o
+  w = walked_of c.store.now c.work.now o
 
-  drawn : Drawn store o.walk.points
+  drawn : Drawn c.store.now o.walk.points
   drawn = walk_drawn o x.fits
 
-  pub arranging : Arranging store work (length store / 2 + A + 1) o
-  arranging = record { room = record { cells = x.room.cells; small = omega (arith, x.room.few, x.room.turns) }; drawn = drawn; points = omega (arith, x.fits.points); corners = x.corners }
+  pub arranging : Arranging c.store.now c.work.now (length c.store.now / 2 + c.allowance + 1) o
+  arranging = record { room = record { cells = c.room.cells; small = omega (arith, c.room.few, c.room.turns) }; drawn = drawn; points = omega (arith, x.fits.points); corners = x.corners }
 
   small : length w.walk.points ≤ none
-  small = omega (arith, walk_length x.fits, x.fits.points, x.room.few)
+  small = omega (arith, walk_length x.fits, x.fits.points, c.room.few)
 
-  module _ {m : lent.Arena} (a : Arranged store work (length store / 2 + A + 1) o m) where
-    pub may_clip : Spare m.sizes.slots A (changes.arena_of m)
-    may_clip = spare_slots a.slots_are (a.spare A (omega (arith, x.fits.points)))
+  module _ {m : lent.Arena} (a : Arranged c.store.now c.work.now (length c.store.now / 2 + c.allowance + 1) o m) where
+    pub may_clip : Spare m.sizes.slots c.allowance (changes.arena_of m)
+    may_clip = spare_slots a.slots_are (a.spare c.allowance (omega (arith, x.fits.points)))
 
     points_are : w.walk.points ≡ pts_of m
     unfolding points_in
@@ -113,16 +114,16 @@ module _ {rect : Rect64} {A : ℕ} {store : List ℤ} {work : List ℕ} {o : Out
 
     -- the tidied arena, as the definition has it
     abbrev tidied : Try (Arena × ℕ)
-    tidied = tidied_all (pts_of m) A (check_edges (pts_of m) rect (changes.arena_of m))
+    tidied = tidied_all (pts_of m) c.allowance (check_edges (pts_of m) c.rect (changes.arena_of m))
 
-    tidied_is : tidied_all w.walk.points A (check_edges w.walk.points rect (arena_of w)) ≡ tidied
-    tidied_is i = tidied_all (points_are i) A (check_edges (points_are i) rect (arena_is i))
+    tidied_is : tidied_all w.walk.points c.allowance (check_edges w.walk.points c.rect (arena_of w)) ≡ tidied
+    tidied_is i = tidied_all (points_are i) c.allowance (check_edges (points_are i) c.rect (arena_is i))
 
-    pub clipped_spent : {m' : lent.Arena} (why : Refusal) → ClippedAs (pts_of m) m m' (Err why) tidied → clip_walked A rect w ≡ refuse (number why)
-    clipped_spent why K = tidied_read A rect w ∙ ap (λ (t : Try (Arena × ℕ)). t >>= λ t. ok (get_paths w.walk.points t.0 (upwards 0 (length t.0.results)), t.1)) (tidied_is ∙ K.answer)
+    pub clipped_spent : {m' : lent.Arena} (why : Refusal) → ClippedAs (pts_of m) m m' (Err why) tidied → clip_walked c.allowance c.rect w ≡ refuse (number why)
+    clipped_spent why K = tidied_read c.allowance c.rect w ∙ ap (λ (t : Try (Arena × ℕ)). t >>= λ t. ok (get_paths w.walk.points t.0 (upwards 0 (length t.0.results)), t.1)) (tidied_is ∙ K.answer)
 
-    module _ {m' : lent.Arena} (c : Clipped) (K : ClippedAs (pts_of m) m m' (Ok c) tidied) where
-      pub clipped_is : clip_walked A rect w ≡ drawing_left m' c
+    module _ {m' : lent.Arena} (k : Clipped) (K : ClippedAs (pts_of m) m m' (Ok k) tidied) where
+      pub clipped_is : clip_walked c.allowance c.rect w ≡ drawing_left m' k
       unfolding drawing_left
       clipped_is =
           let S = K.answer in
@@ -130,17 +131,17 @@ module _ {rect : Rect64} {A : ℕ} {store : List ℤ} {work : List ℕ} {o : Out
           let n : length w.walk.points ≡ m'.sizes.nodes = walk_length x.fits ∙ sym (K.nodes ∙ a.nodes_are) in
           let p : w.walk.points ≡ pts_of m' = points_are ∙ (λ i. points_in (sym K.same.store i) (sym K.nodes i)) in
           let z : straighten_results w.walk.points b (upwards 0 (length b.results)) ≡ changes.arena_of m' = ap (λ (q : List Point64). straighten_results q b (upwards 0 (length b.results))) points_are ∙ sym S.is in
-          tidied_paths A rect w small x.entered b c.turns (tidied_is ∙ S.tidied)
-          ∙ (λ i. ok (map (map (pt_of (p i))) (nodes_read (n i) (z i) (upwards 0 (S.results i))), c.turns))
+          tidied_paths c.allowance c.rect w small x.entered b k.turns (tidied_is ∙ S.tidied)
+          ∙ (λ i. ok (map (map (pt_of (p i))) (nodes_read (n i) (z i) (upwards 0 (S.results i))), k.turns))
 
-      pub readable : Readable m' c
+      pub readable : Readable m' k
       unfolding drawing_left
       readable =
           let C = K.answer.counts in
-          let f = x.few _ c.turns clipped_is in
+          let f = x.few _ k.turns clipped_is in
           record {
             counts = C;
-            few_paths = omega (arith, C.paths, paths_count (pts_of m') (rings_left m'), f.0, f.1, x.room.turns);
+            few_paths = omega (arith, C.paths, paths_count (pts_of m') (rings_left m'), f.0, f.1, c.room.turns);
             few_points = omega (arith, C.points, points_count (pts_of m') (rings_left m'), f.2);
-            few_turns = omega (arith, f.0, x.room.turns);
+            few_turns = omega (arith, f.0, c.room.turns);
           }

@@ -1,5 +1,5 @@
 -- The walk of a closed path: how it ends, what follows the `while`, and where the walk starts. Assumes nothing.
-use Rattle.std.specs.Prelude.{if◌then◌else◌, Result, Ok, Err}
+use Rattle.std.specs.Prelude.{if◌then◌else◌, Option, None, Some, Result, Ok, Err}
 use mathlib.Core.Path.{◌≡◌, refl, sym, ◌∙◌, ap, subst}
 use mathlib.Core.Bool.{Bool, true, false, not, cond, ◌&&◌, ◌||◌}
 use borrow.Author.Tests.{not-true, not-false}
@@ -16,12 +16,10 @@ use Rattle.reference.specs.Walk as def
 use Rattle.entry.specs.declared.answer.Refusal.{Refusal}
 use Rattle.rectclip.specs.declared.walk.Walker.{Walker}
 use Rattle.rectclip.specs.declared.pass.ClosedState.{ClosedState}
-use Rattle.rectclip.specs.declared.outline.Round.{Round}
-use Rattle.rectclip.specs.declared.outline.Round.TheVariants.{Never}
 use Rattle.rectclip.specs.Walking.{turned}
 use Rattle.rectclip.specs.Steps.{walk, full, points, Answers, Steps}
 use Rattle.rectclip.specs.Closing.{state_of}
-use Rattle.rectclip.specs.Outlining.{entered_of, entries, outline, round_of, round_corners, path_contains, corner_toward, close_walk, Outlines}
+use Rattle.rectclip.specs.Outlining.{entered_of, entries, outline, round_corners, path_contains, corner_toward, close_walk, Outlines}
 use Rattle.rectclip.proofs.Adding.{walk_length}
 use Rattle.rectclip.proofs.Closing.{bind_assoc, bind_ap}
 use Rattle.rectclip.proofs.Retracing.{count_sides}
@@ -36,11 +34,6 @@ bare w = record { walk = w; entered = [] }
 abbrev pub plain : Walk → Try def.Walked
 plain w = ok (bare w)
 
--- the four corners are entered
-entries_four : (cw : Bool) (n : ℕ) → 4 ≤ n → entries (round_of cw) ≤ n
-entries_four true n h = h
-entries_four false n h = h
-
 -- ---- the path contains the rectangle, or not
 module _ (x : Walker) {b : Bool} (eb : b ≡ path_contains x.rect (points x)) where
   none_round : path_contains x.rect (points x) ≡ false → plain (walk x) ≡ surround (full x) x.rect (points x) (walk x)
@@ -51,7 +44,7 @@ module _ (x : Walker) {b : Bool} (eb : b ≡ path_contains x.rect (points x)) wh
   unfolding surround
   all_round e = rw e refl
 
-  pub surround_none : not b ≡ true → Outlines (surround (full x) x.rect (points x) (walk x)) x x (Ok Never)
+  pub surround_none : not b ≡ true → Outlines (surround (full x) x.rect (points x) (walk x)) x x (Ok None)
   surround_none t = stays (none_round (sym eb ∙ not-true b t))
 
   module _ (t : not b ≡ false) {cw : Bool} (ec : cw ≡ start_locs_are_clockwise (walk x).start_locs) {y : Walker} {r : Result Unit Refusal} (R : Steps (add_all (full x) (walk x) (round_corners x.rect cw)) x y r) where
@@ -62,14 +55,14 @@ module _ (x : Walker) {b : Bool} (eb : b ≡ path_contains x.rect (points x)) wh
     surround_lost e = record { same = R.same; is = round_lost (full x) x.rect cw (walk x) (refused_is R e) ∙ round_is }
 
     module _ {u : Unit} (e : r ≡ Ok u) where
-      pub surround_all : Outlines (surround (full x) x.rect (points x) (walk x)) x y (Ok (round_of cw))
+      pub surround_all : Outlines (surround (full x) x.rect (points x) (walk x)) x y (Ok (Some cw))
       surround_all = record {
         same = R.same;
-        is = ap (λ (m : ℕ). ok (record { walk = walk y; entered = entered_of m (round_of cw) })) (sym (walk_length y.fits)) ∙ (round_done (full x) x.rect cw x.sheet.extent (walk x) (done_is R e)).0 ∙ round_is;
+        is = ap (λ (m : ℕ). ok (record { walk = walk y; entered = entered_of m (Some cw) })) (sym (walk_length y.fits)) ∙ (round_done (full x) x.rect cw x.sheet.extent (walk x) (done_is R e)).0 ∙ round_is;
       }
 
-      pub surround_counts : entries (round_of cw) ≤ y.state.points
-      surround_counts = entries_four cw y.state.points (subst (λ (m : ℕ). 4 ≤ m) (walk_length y.fits) (round_done (full x) x.rect cw x.sheet.extent (walk x) (done_is R e)).1)
+      pub surround_counts : entries (Some cw) ≤ y.state.points
+      surround_counts = subst (λ (m : ℕ). 4 ≤ m) (walk_length y.fits) (round_done (full x) x.rect cw x.sheet.extent (walk x) (done_is R e)).1
 
 -- ---- what follows the `while`
 -- the last corner, as the definition has it
@@ -115,10 +108,10 @@ module _ (x : Walker) (start : Location) (s : ClosedState) {b : Bool} (eb : b �
   unfolding after_while
   crossed_in e f = rw (e, f) refl
 
-  pub after_inside : b ≡ true → {d : Bool} → d ≡ is_inside start → d ≡ true → Outlines whole x x (Ok Never)
+  pub after_inside : b ≡ true → {d : Bool} → d ≡ is_inside start → d ≡ true → Outlines whole x x (Ok None)
   after_inside t ed v = stays (never_in (sym eb ∙ t) (sym ed ∙ v))
 
-  pub after_surround : b ≡ true → {d : Bool} → d ≡ is_inside start → d ≡ false → {y : Walker} {r : Result Round Refusal} → Outlines (surround (full x) x.rect (points x) (walk x)) x y r → Outlines whole x y r
+  pub after_surround : b ≡ true → {d : Bool} → d ≡ is_inside start → d ≡ false → {y : Walker} {r : Result (Option Bool) Refusal} → Outlines (surround (full x) x.rect (points x) (walk x)) x y r → Outlines whole x y r
   after_surround t ed v A = named A (never_out (sym eb ∙ t) (sym ed ∙ v))
 
   -- the test of the way back, as the code has it
@@ -126,8 +119,8 @@ module _ (x : Walker) (start : Location) (s : ClosedState) {b : Bool} (eb : b �
     way_back : (not (is_inside s.loc) && (not (same_location s.loc s.first_cross) || ltb 2 (length (walk x).start_locs))) ≡ z
     way_back = rw (← el, ← em, count_sides x) ez
 
-    pub after_closes : z ≡ true → {y : Walker} {r : Result Unit Refusal} → Steps (close_walk (full x) x.rect (state_of x s)) x y r → Answers (λ y u. outline y Never) whole x y r
+    pub after_closes : z ≡ true → {y : Walker} {r : Result Unit Refusal} → Steps (close_walk (full x) x.rect (state_of x s)) x y r → Answers (λ y u. outline y None) whole x y r
     after_closes v R = named (read_as R bare (λ u. refl)) (crossed_out (sym eb ∙ t) (way_back ∙ v))
 
-    pub after_stays : z ≡ false → Outlines whole x x (Ok Never)
+    pub after_stays : z ≡ false → Outlines whole x x (Ok None)
     after_stays v = stays (crossed_in (sym eb ∙ t) (way_back ∙ v))

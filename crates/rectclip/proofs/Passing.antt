@@ -4,23 +4,18 @@ use mathlib.Core.Bool.{Bool, true, false}
 use mathlib.Core.List.{List}
 use Prim.Native.Nat.{ℕ, suc, ◌+◌, ◌-◌, ◌/◌, ◌<◌, ◌≤◌}
 use native.Mathlib.Omega.{arith}
-use native.Mathlib.Numerals.{add-one}
 use borrow.Author.Tests.{le-leb, lt-leb, lt-ltb, le-ltb}
-use lib.IntN.{ℤ}
-use lib.ListN.{length, drop, drop_of_length-le}
-use lib.Seq.{drop-cons}
+use lib.ListN.{length}
 use Rattle.plane.specs.declared.point.Point64.{Point64}
 use Rattle.plane.specs.declared.rect.Rect64.{Rect64}
 use Rattle.plane.specs.declared.location.Location.{Location}
-use Rattle.plane.specs.declared.location.Spot.{Spot}
 use Rattle.plane.specs.declared.crossing.SidePoint.{SidePoint}
 use Rattle.plane.specs.Basics.{Try, refuse, ok, ◌>>=◌}
 use Rattle.plane.specs.Intersection.{found_at, get_intersection}
 use Rattle.plane.specs.Locations.{is_inside}
-use Rattle.plane.specs.Points.{origin, pt_at, points_of}
-use Rattle.plane.specs.Rectangle.{get_location}
+use Rattle.plane.specs.Points.{pt_at}
 use Rattle.reference.specs.Walk.{Walk, Next, add, second_search}
-use Rattle.reference.specs.Lines.{first_off_edge, line_through, line_cross, line_from, line_passes}
+use Rattle.reference.specs.Lines.{line_through, line_cross, line_from, line_passes}
 use Rattle.entry.specs.declared.answer.Refusal.{Refusal}
 use Rattle.rectclip.specs.declared.walk.Walker.{Walker}
 use Rattle.std.specs.Prelude.{Result, Ok, Err, None}
@@ -30,27 +25,6 @@ use Rattle.rectclip.specs.Crossing.{one_pass, all_passes}
 use Rattle.rectclip.proofs.Coordinates.{points_length}
 use Rattle.rectclip.proofs.Walking.{on_ok, on_refuse}
 use Rattle.rectclip.proofs.Steps.{same_refl, after, done_is, refused_is}
-
--- ---- the first point off the edges
-pub record Seeking (rect : Rect64) (path : List ℤ) (i : ℕ) : Type 0 where
-  pub goal : first_off_edge rect (drop i (points_of path)) ≡ first_off_edge rect (drop 1 (points_of path))
-
-module _ {rect : Rect64} {path : List ℤ} {i : ℕ} (I : Seeking rect path i) where
-  module _ (h : i < length path / 2) {p : Point64} (ep : p ≡ pt_at (points_of path) i) {s : Spot} (es : s ≡ get_location rect p) where
-    spot_is : s ≡ get_location rect (pt_at (points_of path) i)
-    spot_is = es ∙ ap (get_location rect) ep
-
-    pub seek_found : s.off ≡ true → found_at p s.loc ≡ first_off_edge rect (drop 1 (points_of path))
-    unfolding first_off_edge
-    seek_found t = rw ep (rw (drop-cons (points_of path) i origin (rw (points_length path) h), ← spot_is, t) at I.goal)
-
-    pub seek_again : s.off ≡ false → Seeking rect path (i + 1)
-    unfolding first_off_edge
-    seek_again t = record { goal = rw (add-one i) (rw (drop-cons (points_of path) i origin (rw (points_length path) h), ← spot_is, t) at I.goal) }
-
-  pub seek_ends : length path / 2 ≤ i → None ≡ first_off_edge rect (drop 1 (points_of path))
-  unfolding first_off_edge
-  seek_ends h = rw (drop_of_length-le (points_of path) {i = i} (rw (points_length path) h)) at I.goal
 
 -- ---- a crossing, by its cases
 module _ (full : ℕ → Bool) (rect : Rect64) (nx : Next) (prev : Location) (prev_pt pt ip : Point64) where
@@ -109,12 +83,11 @@ pub record Passes (x : Walker) (start : Place) (n : ℕ) (y : Walker) (s : Place
   pub goal : line_passes (full x) x.rect (points x) (n - turn) (next_of y s) ≡ line_passes (full x) x.rect (points x) (length (points x)) (next_of x start)
   pub same : Same x y
   pub end : n ≡ length x.path.now / 2
-  pub begun : 1 ≤ s.i
 
-pub passes_start : (x : Walker) (start : Place) → 1 ≤ start.i → Passes x start (length x.path.now / 2) x start 0
-passes_start x start h =
+pub passes_start : (x : Walker) (start : Place) → Passes x start (length x.path.now / 2) x start 0
+passes_start x start =
     let e : length x.path.now / 2 - 0 ≡ length x.path.now / 2 = omega arith in
-    record { goal = rw (e, points_length x.path.now) refl; same = same_refl x; end = refl; begun = h }
+    record { goal = rw (e, points_length x.path.now) refl; same = same_refl x; end = refl }
 
 module _ {x : Walker} {start : Place} {n : ℕ} {y : Walker} {s : Place} {turn : ℕ} (I : Passes x start n y s turn) where
   many : length (points x) ≡ n
@@ -141,12 +114,11 @@ module _ {x : Walker} {start : Place} {n : ℕ} {y : Walker} {s : Place} {turn :
       pub passes_lost : {why : Refusal} → r ≡ Err why → Steps whole x z (Err why)
       passes_lost e = record { same = one.same; is = on_refuse kept (passes_stop _ x.rect (points x) (n - (turn + 1)) (next_of y s) (rw many p) _ (refused_is one e) ∙ now_left) }
 
-      pub passes_again : {t : Place} → r ≡ Ok t → s.i ≤ t.i → Passes x start n z t (turn + 1)
-      passes_again {t} e f = record {
+      pub passes_again : {t : Place} → r ≡ Ok t → Passes x start n z t (turn + 1)
+      passes_again {t} e = record {
         goal = passes_go _ x.rect (points x) (n - (turn + 1)) (next_of y s) (rw many p) (next_of z t) (done_is one e) ∙ now_left;
         same = one.same;
         end = I.end;
-        begun = omega (arith, I.begun);
       }
 
   pub passes_done : n ≤ turn → Steps whole x y (Ok tt)

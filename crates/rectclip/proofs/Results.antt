@@ -15,6 +15,7 @@ use Rattle.plane.specs.declared.point.Point64.{Point64}
 use Rattle.reference.specs.Lines.{pieces, longer_than_one}
 use Rattle.reference.specs.Entry.{joined}
 use Rattle.rectclip.specs.declared.walk.WalkState.{WalkState}
+use Rattle.rectclip.specs.declared.walk.Walker.{Walker}
 use Rattle.rectclip.specs.Memory.{at, column}
 use Rattle.rectclip.specs.Walking.{walk_of, Fits}
 use Rattle.rectclip.specs.Pieces.{start_of, Tallied}
@@ -47,14 +48,14 @@ pub record Partly (P : List Point64) (S : List ℕ) (j paths points : ℕ) : Typ
   pub counted : paths ≡ length done
   pub summed : points ≡ length (joined done)
 
-pub partly_none : (P : List Point64) (S : List ℕ) → Partly P S 0 0 0
+unfoldable pub partly_none : (P : List Point64) (S : List ℕ) → Partly P S 0 0 0
 partly_none P S = record { done = []; whole = refl; counted = refl; summed = refl }
 
 pub joined_push : (done : List (List Point64)) (p : List Point64) → joined (done ++ p ∷ []) ≡ joined done ++ p
 joined_push [] p = append-nil p
 joined_push (q ∷ done) p = ap (λ (l : List Point64). q ++ l) (joined_push done p) ∙ sym (append_assoc q (joined done) p)
 
-joined_append : (a b : List (List Point64)) → joined (a ++ b) ≡ joined a ++ joined b
+pub joined_append : (a b : List (List Point64)) → joined (a ++ b) ≡ joined a ++ joined b
 joined_append [] b = refl
 joined_append (q ∷ a) b = ap (λ (l : List Point64). q ++ l) (joined_append a b) ∙ sym (append_assoc q (joined a) (joined b))
 
@@ -83,7 +84,7 @@ module _ {P : List Point64} {S : List ℕ} {j paths points : ℕ} (D : Partly P 
     pub summed_more : points + (to - from) ≡ length (joined (D.done ++ piece ∷ []))
     summed_more = rw (joined_push D.done piece, length-append (joined D.done) piece, piece_length P from to ht, D.summed) refl
 
-    pub partly_more : from + 1 < to → Partly P S (j + 1) (paths + 1) (points + (to - from))
+    unfoldable pub partly_more : from + 1 < to → Partly P S (j + 1) (paths + 1) (points + (to - from))
     partly_more q = record {
       done = D.done ++ piece ∷ [];
       whole = partly_long q;
@@ -95,28 +96,13 @@ module _ {P : List Point64} {S : List ℕ} {j paths points : ℕ} (D : Partly P 
     unfolding longer_than_one
     partly_skips q = rw (here, piece_length P from to ht, le-ltb 1 (to - from) (omega arith)) at D.whole
 
-    pub partly_same : to ≤ from + 1 → Partly P S (j + 1) paths points
+    unfoldable pub partly_same : to ≤ from + 1 → Partly P S (j + 1) paths points
     partly_same q = record {
       done = D.done;
       whole = partly_skips q;
       counted = D.counted;
       summed = D.summed;
     }
-
-    -- the whole result has room for one piece more
-    pub partly_paths : from + 1 < to → paths + 1 ≤ length (longer_than_one (pieces P S))
-    partly_paths q =
-        let c = D.counted in
-        let z = simp length-append at (ap length (partly_long q)) in
-        omega arith
-
-    pub partly_points : from + 1 < to → points + (to - from) ≤ length (joined (longer_than_one (pieces P S)))
-    partly_points q =
-        let c = summed_more in
-        let z = ap (λ (l : List (List Point64)). length (joined l)) (partly_long q) in
-        let y = ap length (joined_append (D.done ++ piece ∷ []) (longer_than_one (pieces P (drop (j + 1) S)))) in
-        let x = length-append (joined (D.done ++ piece ∷ [])) (joined (longer_than_one (pieces P (drop (j + 1) S)))) in
-        omega arith
 
 -- ---- where results start, in the lists
 module _ {store : List ℤ} {work : List ℕ} {s : WalkState} (F : Fits store work s) where
@@ -170,18 +156,18 @@ pub record Counting (store : List ℤ) (work : List ℕ) (s : WalkState) (paths 
   pub few : paths ≤ j
   pub within : points ≤ start_of work s j
 
-pub counting_none : (store : List ℤ) (work : List ℕ) (s : WalkState) → Counting store work s 0 0 0
+unfoldable pub counting_none : (store : List ℤ) (work : List ℕ) (s : WalkState) → Counting store work s 0 0 0
 counting_none store work s = record { partly = partly_none _ _; here = omega arith; few = omega arith; within = omega arith }
 
 module _ {store : List ℤ} {work : List ℕ} {s : WalkState} (F : Fits store work s) {paths points j : ℕ} (I : Counting store work s paths points j) where
   module _ (h : j < s.starts) {from to : ℕ} (ef : from ≡ start_of work s j) (et : to ≡ start_of work s (j + 1)) where
-    in_starts : j < length (walk_of store work s).starts
+    pub in_starts : j < length (walk_of store work s).starts
     in_starts = rw (starts_length F) h
 
-    to_in : to ≤ length (walk_of store work s).points
+    pub to_in : to ≤ length (walk_of store work s).points
     to_in = rw (walk_length F) (let z = start_within F (j + 1) in omega arith)
 
-    pub count_more : from + 1 < to → Counting store work s (paths + 1) (points + (to - from)) (j + 1)
+    unfoldable pub count_more : from + 1 < to → Counting store work s (paths + 1) (points + (to - from)) (j + 1)
     count_more q = record {
       partly = partly_more I.partly (walk_length F) in_starts (start_here F h ef) (start_next F (j + 1) et) to_in q;
       here = omega arith;
@@ -189,7 +175,7 @@ module _ {store : List ℤ} {work : List ℕ} {s : WalkState} (F : Fits store wo
       within = let z = start_rises F j h in omega (arith, I.within);
     }
 
-    pub count_same : to ≤ from + 1 → Counting store work s paths points (j + 1)
+    unfoldable pub count_same : to ≤ from + 1 → Counting store work s paths points (j + 1)
     count_same q = record {
       partly = partly_same I.partly (walk_length F) in_starts (start_here F h ef) (start_next F (j + 1) et) to_in q;
       here = omega arith;
@@ -197,19 +183,12 @@ module _ {store : List ℤ} {work : List ℕ} {s : WalkState} (F : Fits store wo
       within = let z = start_rises F j h in omega (arith, I.within);
     }
 
-    -- what the sums need
-    pub count_fits : (to ≤ 65536) × (from ≤ to) × (points ≤ from) × (paths < 65536)
-    count_fits =
-        let a = start_within F (j + 1) in
-        let b = start_rises F j h in
-        (omega (arith, F.points, F.few), omega arith, omega (arith, I.within), omega (arith, I.few, F.starts, F.points, F.few))
-
-  pub count_done : s.starts ≤ j → Tallied store work s (record { paths = paths; points = points })
-  count_done h =
-      let e = partly_all I.partly (rw (starts_length F) h) in
-      record {
-        paths = I.partly.counted ∙ ap length e;
-        points = I.partly.summed ∙ ap (λ (l : List (List Point64)). length (joined l)) e;
-        few = omega (arith, I.few, I.here);
-        within = let z = start_within F j in omega (arith, I.within);
-      }
+pub count_done : (x : Walker) {paths points j : ℕ} → Counting x.store.now x.work.now x.state paths points j → x.state.starts ≤ j → Tallied x (record { paths = paths; points = points })
+count_done x {j = j} I h =
+    let e = partly_all I.partly (rw (starts_length x.fits) h) in
+    record {
+      paths = I.partly.counted ∙ ap length e;
+      points = I.partly.summed ∙ ap (λ (l : List (List Point64)). length (joined l)) e;
+      few = omega (arith, I.few, I.here);
+      within = let z = start_within x.fits j in omega (arith, I.within);
+    }

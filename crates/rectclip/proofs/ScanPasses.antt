@@ -1,7 +1,7 @@
 -- A pass, the end and the loop of `point_in_polygon`, way by way. Assumes nothing.
 use Rattle.std.specs.Prelude.{if◌then◌else◌}
 use mathlib.Core.Path.{◌≡◌, refl, sym, ap, ◌∙◌, subst}
-use mathlib.Core.Bool.{Bool, true, false, ◌&&◌, ◌||◌, beq}
+use mathlib.Core.Bool.{Bool, true, false, not, ◌&&◌, ◌||◌, beq}
 use mathlib.Core.List.{List}
 use Prim.Native.Nat.{ℕ, suc, ◌-◌, ◌/◌, ◌<◌}
 use native.Mathlib.Omega.{arith}
@@ -15,11 +15,12 @@ use Rattle.plane.specs.Signs.{cross_product_sign}
 use Rattle.plane.specs.Polygon.{skipped, before_idx, at_vertex, scan_pass, scan_answer, scan_loop}
 use Rattle.plane.specs.Polygon as polygon
 use Rattle.plane.specs.declared.location.PointInPolygonResult.{PointInPolygonResult}
-use Rattle.plane.specs.declared.location.PointInPolygonResult.TheVariants.{IsOn}
+use Rattle.plane.specs.declared.location.PointInPolygonResult.TheVariants.{IsOn, IsInside, IsOutside}
 use Rattle.plane.specs.declared.point.Point64.{Point64}
-use Rattle.rectclip.specs.Scanned.{scan_of, answer_of}
+use Rattle.rectclip.specs.Scanned.{bit, scan_of, answer_of}
 use Rattle.rectclip.specs.declared.polygon.Scan.{Scan}
 use Rattle.rectclip.proofs.Coordinates.{points_length}
+use Rattle.rectclip.proofs.ScanSteps.{turned}
 
 -- ---- a pass
 module _ (pt : Point64) (c : List ℤ) (first : ℕ) (s : Scan) where
@@ -30,10 +31,10 @@ module _ (pt : Point64) (c : List ℤ) (first : ℕ) (s : Scan) where
   whole = scan_pass pt (points_of c) first (scan_of s)
 
   abbrev vertex : Bool → ℕ → polygon.ScanStep
-  vertex w i = at_vertex pt (points_of c) first s.is_above w s.val i
+  vertex w i = at_vertex pt (points_of c) first s.is_above w (bit s.val) i
 
   abbrev skipping : Bool → ℕ → polygon.ScanStep
-  skipping w i = polygon.again (record { curr_idx = i; is_above = s.is_above; wrap_to_start = w; val = s.val })
+  skipping w i = polygon.again (record { curr_idx = i; is_above = s.is_above; wrap_to_start = w; val = bit s.val })
 
   -- with k vertices
   abbrev counted : ℕ → polygon.ScanStep
@@ -76,13 +77,21 @@ module _ (pt : Point64) (c : List ℤ) (first : ℕ) (s : Scan) where
         g ∙ ap (vertex wrap) here ∙ rw (pass_counted, go, e2)
 
 -- ---- the end
+-- the definition's answer of a number, and the code's of a truth value
+abbrev number_answer : ℕ → PointInPolygonResult
+number_answer val = if eqb val 0 then IsOutside else IsInside
+
+answered : (v : Bool) → answer_of v ≡ number_answer (bit v)
+answered true = refl
+answered false = refl
+
 module _ (pt : Point64) (c : List ℤ) (starting : Bool) (s : Scan) where
   abbrev ending : PointInPolygonResult
   ending = scan_answer pt (points_of c) starting (scan_of s)
 
   pub ends_alike : {r : PointInPolygonResult} → beq s.is_above starting ≡ true → r ≡ answer_of s.val → r ≡ ending
   unfolding scan_answer
-  ends_alike e f = f ∙ rw e
+  ends_alike e f = f ∙ answered s.val ∙ rw e
 
   -- the last edge ends at vertex i, from p to q, and d is the sign of its turn
   module _ {i b : ℕ} {p q : Point64} {d : ℤ} (other : beq s.is_above starting ≡ false) (f : i ≡ (if leb (length c / 2) s.curr_idx then 0 else s.curr_idx))
@@ -106,19 +115,19 @@ module _ (pt : Point64) (c : List ℤ) (starting : Bool) (s : Scan) where
     unfolding scan_answer
     ends_on e = let z : eq_z D (pos 0) ≡ true = sym (ap (λ (x : ℤ). eq_z x (pos 0)) turn) ∙ e in rw (other, z)
 
-    pub ends_across : {r : PointInPolygonResult} → eq_z d (pos 0) ≡ false → beq (lt_z d (pos 0)) s.is_above ≡ true → r ≡ answer_of (1 - s.val) → r ≡ ending
+    pub ends_across : {r : PointInPolygonResult} → eq_z d (pos 0) ≡ false → beq (lt_z d (pos 0)) s.is_above ≡ true → r ≡ answer_of (not s.val) → r ≡ ending
     unfolding scan_answer
     ends_across e m t =
         let z : eq_z D (pos 0) ≡ false = sym (ap (λ (x : ℤ). eq_z x (pos 0)) turn) ∙ e in
         let y : beq (lt_z D (pos 0)) s.is_above ≡ true = sym (ap (λ (x : ℤ). beq (lt_z x (pos 0)) s.is_above) turn) ∙ m in
-        t ∙ rw (other, z, y)
+        t ∙ answered (not s.val) ∙ ap number_answer (turned s.val) ∙ rw (other, z, y)
 
     pub ends_aside : {r : PointInPolygonResult} → eq_z d (pos 0) ≡ false → beq (lt_z d (pos 0)) s.is_above ≡ false → r ≡ answer_of s.val → r ≡ ending
     unfolding scan_answer
     ends_aside e m t =
         let z : eq_z D (pos 0) ≡ false = sym (ap (λ (x : ℤ). eq_z x (pos 0)) turn) ∙ e in
         let y : beq (lt_z D (pos 0)) s.is_above ≡ false = sym (ap (λ (x : ℤ). beq (lt_z x (pos 0)) s.is_above) turn) ∙ m in
-        t ∙ rw (other, z, y)
+        t ∙ answered s.val ∙ rw (other, z, y)
 
 -- ---- the loop
 module _ (pt : Point64) (c : List ℤ) (first : ℕ) (starting : Bool) (s : Scan) where
@@ -131,18 +140,18 @@ module _ (pt : Point64) (c : List ℤ) (first : ℕ) (starting : Bool) (s : Scan
   abbrev told : ℕ → polygon.ScanStep → PointInPolygonResult
   told left x = elim x [ polygon.on_edge ↦ IsOn | polygon.stop t ↦ scan_answer pt (points_of c) starting t | polygon.again t ↦ scan_loop pt (points_of c) first left starting t ]
 
-  turned : (left : ℕ) → run (suc left) s ≡ told left pass
+  once : (left : ℕ) → run (suc left) s ≡ told left pass
   unfolding scan_loop
-  turned left = refl
+  once left = refl
 
   more : (left : ℕ) → 0 < left → run left s ≡ told (left - 1) pass
-  more left h = ap (λ (k : ℕ). run k s) {x = left} {y = suc (left - 1)} (omega arith) ∙ turned (left - 1)
+  more left h = ap (λ (k : ℕ). run k s) {x = left} {y = suc (left - 1)} (omega arith) ∙ once (left - 1)
 
   pub loop_on : (left : ℕ) → 0 < left → polygon.on_edge ≡ pass → IsOn ≡ run left s
   loop_on left h e = ap (told (left - 1)) e ∙ sym (more left h)
 
-  pub loop_stops : (left : ℕ) {t : Scan} {r : PointInPolygonResult} → 0 < left → polygon.stop (scan_of t) ≡ pass → r ≡ scan_answer pt (points_of c) starting (scan_of t) → r ≡ run left s
-  loop_stops left h e f = f ∙ ap (told (left - 1)) e ∙ sym (more left h)
+  pub loop_stops : (left : ℕ) (t : Scan) {r : PointInPolygonResult} → 0 < left → polygon.stop (scan_of t) ≡ pass → r ≡ scan_answer pt (points_of c) starting (scan_of t) → r ≡ run left s
+  loop_stops left t h e f = f ∙ ap (told (left - 1)) e ∙ sym (more left h)
 
   pub loop_goes_on : (left : ℕ) (t : Scan) → 0 < left → polygon.again (scan_of t) ≡ pass → run (left - 1) t ≡ run left s
   loop_goes_on left t h e = ap (told (left - 1)) e ∙ sym (more left h)

@@ -54,9 +54,6 @@ pub record Scanning (path : List ℤ) (line : Line) (from i : ℕ) : Type 0 wher
   pub forth : from ≤ i
   pub here : i ≤ max from (length path / 2)
 
-pub scan_starts : {path : List ℤ} {line : Line} {from : ℕ} → Scanning path line from from
-scan_starts = record { goal = refl; forth = omega arith; here = omega arith }
-
 module _ {path : List ℤ} {line : Line} {from i : ℕ} (I : Scanning path line from i) where
   module _ (o : line.offset ≤ 1) (h : i < length path / 2) {v : ℤ} (ev : v ≡ get_or path (2 * i + line.offset) (pos 0)) {b : Bool} (eb : b ≡ past line v) where
     told : b ≡ past_line line (pt_at (points_of path) i)
@@ -113,10 +110,6 @@ module _ {rect : Rect64} {loc : Location} {line : Line} (D : LineOf rect loc lin
       → (w : Walk) → placed w (record { loc = q; i = i }) ≡ next_outside rect (points_of path) w loc from
   unfolding next_outside
   outside_met h ep eq w = rw (eq, ep, ← there, lt-leb (length (points_of path)) i (rw (points_length path) h)) refl
-
-pub outside_forth : (rect : Rect64) (P : List Point64) (w : Walk) (loc : Location) (from : ℕ) → from ≤ (next_outside rect P w loc from).i
-unfolding next_outside
-outside_forth rect P w loc from = omega arith
 
 pub next_as_outside : (full : ℕ → Bool) (rect : Rect64) (P : List Point64) (w : Walk) (loc : Location) (i : ℕ) → is_inside loc ≡ false
     → ok (next_outside rect P w loc i) ≡ get_next_location full rect P w loc i

@@ -89,6 +89,3 @@ module _ (pt : Point64) (c : List ℤ) where
     pub skip_end : (left i : ℕ) → i ≡ n → skip left i ≡ i
     skip_end zero i e = refl
     skip_end (suc left) i e = rw (eq-eqb i (length (points_of c)) (e ∙ sym (points_length c)))
-
-    pub skip_start : (from : ℕ) → skip (n + from - from) from ≡ skip n from
-    skip_start from = ap (λ (k : ℕ). skip k from) {x = n + from - from} {y = n} (omega arith)

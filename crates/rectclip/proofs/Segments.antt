@@ -1,24 +1,35 @@
--- What a sign's test against 0 says, and the tests of `at_end`, as the definitions have them. Assumes nothing.
-use mathlib.Core.Path.{◌≡◌, refl, sym, ap, ◌∙◌}
+-- What a sign's tests say, and the tests of `at_end`, as the definitions have them. Assumes nothing.
+use mathlib.Core.Path.{◌≡◌, refl, sym, ◌∙◌}
 use mathlib.Core.Bool.{Bool, true, false, ◌||◌}
-use lib.IntN.{ℤ, pos}
-use mir.Syntax.{w64}
-use mir.Val.{SFits, of_z}
-use mir.Facts.{sfits_lit}
-use Rattle.integers.specs.Tests.{eq_z, eq_plain, ne_plain}
+use lib.IntN.{pos}
+use lib.Signed.{lt_z}
+use Rattle.std.specs.Ordering.{is_eq, is_gt, is_lt}
+use Rattle.std.specs.declared.cmp.Ordering.{Ordering}
+use Rattle.std.specs.declared.cmp.Ordering.TheVariants.{Less, Equal, Greater}
+use Rattle.integers.specs.Tests.{eq_z}
 use Rattle.std.specs.Bool.{then_some}
 use Rattle.std.specs.Prelude.{if◌then◌else◌, Some, None}
 use Rattle.plane.specs.contracts.point.Point64PartialEq.TheImpl as of_points
 use Rattle.plane.specs.Points.{same_point}
 use Rattle.plane.specs.declared.point.Point64.{Point64}
 use Rattle.plane.proofs.Equality.{same_point_is}
+use Rattle.rectclip.specs.Bounds.{sign_of}
 
--- a call's result r is the sign s, and r was compared with 0
-pub zero_yes : {r s : ℤ} → SFits w64 r → r ≡ s → of_z w64 r ≡ of_z w64 (pos 0) → eq_z s (pos 0) ≡ true
-zero_yes {r} {s} f e t = sym (ap (λ (z : ℤ). eq_z z (pos 0)) e) ∙ eq_plain r (pos 0) f (sfits_lit tt) t
+-- what is asked of a sign is what the definition asks of its number
+pub sign_zero : (o : Ordering) → is_eq o ≡ eq_z (sign_of o) (pos 0)
+sign_zero Less = refl
+sign_zero Equal = refl
+sign_zero Greater = refl
 
-pub zero_no : {r s : ℤ} → SFits w64 r → r ≡ s → (of_z w64 r ≡ of_z w64 (pos 0) → ⊥) → eq_z s (pos 0) ≡ false
-zero_no {r} {s} f e t = sym (ap (λ (z : ℤ). eq_z z (pos 0)) e) ∙ ne_plain r (pos 0) f (sfits_lit tt) t
+pub sign_positive : (o : Ordering) → is_gt o ≡ lt_z (pos 0) (sign_of o)
+sign_positive Less = refl
+sign_positive Equal = refl
+sign_positive Greater = refl
+
+pub sign_negative : (o : Ordering) → is_lt o ≡ lt_z (sign_of o) (pos 0)
+sign_negative Less = refl
+sign_negative Equal = refl
+sign_negative Greater = refl
 
 -- whether a point is an end of a segment
 pub is_end : (p a b : Point64) {x y t : Bool} → x ≡ of_points.ghosts.eq p a → y ≡ of_points.ghosts.eq p b → (x || y) ≡ t → (same_point p a || same_point p b) ≡ t

@@ -4,7 +4,7 @@ use Rattle.std.specs.Prelude.{if◌then◌else◌}
 use mathlib.Core.Path.{◌≡◌, refl, sym, ◌∙◌, ap}
 use mathlib.Core.Bool.{Bool, true, false}
 use mathlib.Core.List.{List, [], ◌∷◌, map}
-use Prim.Native.Nat.{ℕ, suc, ◌+◌, ◌<◌, ◌≤◌}
+use Prim.Native.Nat.{ℕ, zero, suc, ◌+◌, ◌<◌, ◌≤◌}
 use native.Mathlib.Omega.{arith}
 use native.Mathlib.Numerals.{add-one}
 use lib.Dec.{ltb}
@@ -16,9 +16,9 @@ use Rattle.integers.specs.Ring.{var, con, ◌⊕◌, ◌⊖◌, ring}
 use Rattle.integers.specs.Tests.{ltZ_sub, eq_z, eqZ_true}
 use Rattle.plane.specs.declared.location.Location.{Location}
 use Rattle.plane.specs.declared.location.Location.TheVariants.{Inside}
-use Rattle.plane.specs.Locations.{side_number, step_of, steps_of, start_locs_are_clockwise}
+use Rattle.plane.specs.Locations.{side_number, side, step_of, steps_of, start_locs_are_clockwise}
 use Rattle.theorems.proofs.Locations.{every, each}
-use Rattle.rectclip.specs.declared.outline.Turns.{Turns}
+use Rattle.rectclip.specs.declared.outline.StepCounts.{StepCounts}
 use Rattle.rectclip.specs.Memory.{at, column}
 use Rattle.rectclip.specs.Walking.{location}
 use Rattle.rectclip.specs.Outlining.{steps_up, turned_by}
@@ -34,6 +34,21 @@ sides_length n work = length-map (column 5 n work) location ∙ column_length 5 
 pub side_at : (n : ℕ) (work : List ℕ) (i : ℕ) → i < n → get_or (sides n work) i Inside ≡ location (at 5 work i)
 side_at n work i h = get_or-map location (column 5 n work) i 4 ∙ ap location (column_at 5 n work i 4 h)
 
+-- the side of a number below 4, and no side of another
+pub location_side : (n : ℕ) → n < 4 → side n ≡ location n
+location_side zero h = refl
+location_side (suc zero) h = refl
+location_side (suc (suc zero)) h = refl
+location_side (suc (suc (suc zero))) h = refl
+location_side (suc (suc (suc (suc n)))) h = absurd (omega arith)
+
+pub location_inside : (n : ℕ) → 4 ≤ n → Inside ≡ location n
+location_inside zero h = absurd (omega arith)
+location_inside (suc zero) h = absurd (omega arith)
+location_inside (suc (suc zero)) h = absurd (omega arith)
+location_inside (suc (suc (suc zero))) h = absurd (omega arith)
+location_inside (suc (suc (suc (suc n)))) h = refl
+
 -- ---- a step along them
 -- the step as the code counts it
 abbrev counted_step : Location → Location → ℤ
@@ -46,16 +61,16 @@ step_is : (a b : Location) → step_of (pos (side_number b) -ℤ pos (side_numbe
 step_is a b = eqZ_true (each (λ y. eq_z (step_of (pos (side_number y) -ℤ pos (side_number a))) (counted_step a y)) (each (λ x. every (λ y. eq_z (step_of (pos (side_number y) -ℤ pos (side_number x))) (counted_step x y))) all_steps a) b)
 
 -- what the counts say so far
-abbrev net : Turns → ℤ
+abbrev net : StepCounts → ℤ
 net t = pos t.ups -ℤ pos t.downs
 
-counted : (x y : Bool) (t : Turns) (S : ℤ)
+counted : (x y : Bool) (t : StepCounts) (S : ℤ)
     → net (if x then record { ups = t.ups + 1; downs = t.downs } else if y then record { ups = t.ups; downs = t.downs + 1 } else t) +ℤ S ≡ net t +ℤ ((if x then pos 1 else if y then negsuc 0 else pos 0) +ℤ S)
 counted true y t S = ring (pos t.ups ∷ pos t.downs ∷ S ∷ []) (((var 0 ⊕ con (pos 1)) ⊖ var 1) ⊕ var 2) ((var 0 ⊖ var 1) ⊕ (con (pos 1) ⊕ var 2)) tt
 counted false true t S = ring (pos t.ups ∷ pos t.downs ∷ S ∷ []) ((var 0 ⊖ (var 1 ⊕ con (pos 1))) ⊕ var 2) ((var 0 ⊖ var 1) ⊕ (con (negsuc 0) ⊕ var 2)) tt
 counted false false t S = ring (pos t.ups ∷ pos t.downs ∷ S ∷ []) ((var 0 ⊖ var 1) ⊕ var 2) ((var 0 ⊖ var 1) ⊕ (con (pos 0) ⊕ var 2)) tt
 
-step_counted : (t : Turns) (a b : Location) (S : ℤ) → net (turned_by t a b) +ℤ S ≡ net t +ℤ (step_of (pos (side_number b) -ℤ pos (side_number a)) +ℤ S)
+step_counted : (t : StepCounts) (a b : Location) (S : ℤ) → net (turned_by t a b) +ℤ S ≡ net t +ℤ (step_of (pos (side_number b) -ℤ pos (side_number a)) +ℤ S)
 step_counted t a b S = counted (steps_up a b) (steps_up b a) t S ∙ ap (λ (z : ℤ). net t +ℤ (z +ℤ S)) (sym (step_is a b))
 
 -- ---- the loop over them
@@ -71,24 +86,24 @@ steps_short [] h = refl
 steps_short (a ∷ []) h = refl
 steps_short (a ∷ b ∷ l) h = absurd (omega arith)
 
-pub record Counting (work : List ℕ) (n : ℕ) (t : Turns) (i : ℕ) : Type 0 where
+pub record Counting (work : List ℕ) (n : ℕ) (t : StepCounts) (i : ℕ) : Type 0 where
   pub goal : net t +ℤ steps_of (drop i (sides n work)) ≡ steps_of (sides n work)
   pub ups : t.ups ≤ i
   pub downs : t.downs ≤ i
   pub here : i ≤ n
 
-up_le : (x y : Bool) (t : Turns) (i : ℕ) → t.ups ≤ i → (if x then record { ups = t.ups + 1; downs = t.downs } else if y then record { ups = t.ups; downs = t.downs + 1 } else t).ups ≤ i + 1
+up_le : (x y : Bool) (t : StepCounts) (i : ℕ) → t.ups ≤ i → (if x then record { ups = t.ups + 1; downs = t.downs } else if y then record { ups = t.ups; downs = t.downs + 1 } else t).ups ≤ i + 1
 up_le true y t i h = omega arith
 up_le false true t i h = omega arith
 up_le false false t i h = omega arith
 
-down_le : (x y : Bool) (t : Turns) (i : ℕ) → t.downs ≤ i → (if x then record { ups = t.ups + 1; downs = t.downs } else if y then record { ups = t.ups; downs = t.downs + 1 } else t).downs ≤ i + 1
+down_le : (x y : Bool) (t : StepCounts) (i : ℕ) → t.downs ≤ i → (if x then record { ups = t.ups + 1; downs = t.downs } else if y then record { ups = t.ups; downs = t.downs + 1 } else t).downs ≤ i + 1
 down_le true y t i h = omega arith
 down_le false true t i h = omega arith
 down_le false false t i h = omega arith
 
-module _ {work : List ℕ} {n : ℕ} {t : Turns} {i : ℕ} (I : Counting work n t i) where
-  pub count_again : i + 1 < n → {a b : Location} → a ≡ location (at 5 work i) → b ≡ location (at 5 work (i + 1)) → {u : Turns} → u ≡ turned_by t a b → Counting work n u (i + 1)
+module _ {work : List ℕ} {n : ℕ} {t : StepCounts} {i : ℕ} (I : Counting work n t i) where
+  pub count_again : i + 1 < n → {a b : Location} → a ≡ location (at 5 work i) → b ≡ location (at 5 work (i + 1)) → {u : StepCounts} → u ≡ turned_by t a b → Counting work n u (i + 1)
   count_again h {a} {b} ea eb eu =
       let fa : a ≡ get_or (sides n work) i Inside = ea ∙ sym (side_at n work i (omega arith)) in
       let fb : b ≡ get_or (sides n work) (i + 1) Inside = eb ∙ sym (side_at n work (i + 1) h) in

@@ -10,9 +10,10 @@ use lib.Seq.{get_or-set_same, get_or-set_other}
 use Rattle.plane.specs.Basics.{none, push}
 use Rattle.reference.specs.Arena.{Arena, edge_list, set_next, set_prev, set_owner, set_edge, set_result, set_results, set_entry, set_edge_list}
 use Rattle.rectclip.specs.declared.arena.Sizes.{Sizes}
+use Rattle.rectclip.specs.declared.side.EdgeList.{EdgeList}
 use Rattle.rectclip.specs.Memory.{put}
 use Rattle.rectclip.specs.declared.arena.Arena as lent
-use Rattle.rectclip.specs.Arenas.{arena_at, mark, Valid, Holds, Marked, longer_list, one_result_more}
+use Rattle.rectclip.specs.Arenas.{arena_at, mark, list_mark, Valid, Holds, Marked, longer_list, one_result_more}
 use Rattle.rectclip.specs.Changes.{arena_of, Leaves, Grows}
 use Rattle.rectclip.proofs.Memory.{length_put, room_put}
 use Rattle.rectclip.proofs.Columns.{column_length}
@@ -23,6 +24,10 @@ use Rattle.rectclip.proofs.Ranges.{valid_next, valid_prev, valid_owner, valid_ed
 pub marked_in : (v : Option ℕ) (n : ℕ) → IfSome v (λ i. i < n) → Marked n (mark v)
 marked_in None n h = λ q. absurd (q refl)
 marked_in (Some i) n h = λ _. h
+
+pub list_in : (v : Option EdgeList) → Marked 8 (list_mark v)
+list_in None = λ q. absurd (q refl)
+list_in (Some l) = λ _. l.within
 
 pub some_in : (v : Option ℕ) (n x : ℕ) → mark v ≡ x → IfSome v (λ i. i ≡ none → ⊥) → Marked n x → IfSome v (λ i. i < n)
 some_in None n x e q h = tt
@@ -78,8 +83,8 @@ module _ (x : lent.Arena) where
     pub stored_owner : (i v : ℕ) → i < s.nodes → v < s.results → m' ≡ put 2 m i v → Kept x m' s (set_owner (arena_of x) i v)
     stored_owner i v g l w = kept 2 i v _ w (put_owner s.slots m s h.room h.eight i v h.nodes g) (valid_owner h.valid i v l)
 
-    pub stored_edge : (i : ℕ) (v : Option ℕ) → i < s.nodes → IfSome v (λ e. e < 8) → {k : ℕ} → k ≡ mark v → m' ≡ put 3 m i k → Kept x m' s (set_edge (arena_of x) i (mark v))
-    stored_edge i v g l e w = kept 3 i (mark v) _ (rw e at w) (put_edge s.slots m s h.room h.eight i (mark v) h.nodes g) (valid_edge h.valid i (mark v) (marked_in v 8 l))
+    pub stored_edge : (i : ℕ) (v : Option EdgeList) → i < s.nodes → {k : ℕ} → k ≡ list_mark v → m' ≡ put 3 m i k → Kept x m' s (set_edge (arena_of x) i (list_mark v))
+    stored_edge i v g e w = kept 3 i (list_mark v) _ (rw e at w) (put_edge s.slots m s h.room h.eight i (list_mark v) h.nodes g) (valid_edge h.valid i (list_mark v) (list_in v))
 
     pub stored_result : (i : ℕ) (v : Option ℕ) → i < s.results → IfSome v (λ op. op < s.nodes) → {k : ℕ} → k ≡ mark v → m' ≡ put 4 m i k → Kept x m' s (set_result (arena_of x) i (mark v))
     stored_result i v g l e w = kept 4 i (mark v) _ (rw e at w) (put_result s.slots m s h.room h.eight i (mark v) h.results g) (valid_result h.valid i (mark v) (marked_in v s.nodes l))

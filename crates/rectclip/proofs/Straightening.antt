@@ -13,7 +13,7 @@ use Rattle.reference.specs.Arena.{Arena}
 use Rattle.reference.specs.Arena as reference
 use Rattle.reference.specs.Clip.{straighten_pass, straighten}
 use Rattle.rectclip.specs.declared.arena.Arena as lent
-use Rattle.rectclip.specs.declared.rings.Round.{Round}
+use Rattle.rectclip.specs.declared.rings.RingPlace.{RingPlace}
 use Rattle.rectclip.specs.Arenas.{mark}
 use Rattle.rectclip.specs.Changes.{arena_of, pts_of, Leaves}
 use Rattle.rectclip.specs.Rings.{Passed, EndsAt}
@@ -45,7 +45,7 @@ module _ {count : ℕ} {m₀ : lent.Arena} {op₀ x₀ : ℕ} {m : lent.Arena} {
   abbrev pts : List Point64
   pts = pts_of m₀
 
-  module _ {left' : ℕ} (z : left ≡ suc left') (v : x ≡ op → ⊥) {m' : lent.Arena} (r : Round) (p : Passed m m' r (straighten_pass (pts_of m) (arena_of m) op x)) where
+  module _ {left' : ℕ} (z : left ≡ suc left') (v : x ≡ op → ⊥) {m' : lent.Arena} (r : RingPlace) (p : Passed m m' r (straighten_pass (pts_of m) (arena_of m) op x)) where
     q : Passed m m' r (straighten_pass pts (arena_of m) op x)
     q = first_points (λ t a. straighten_pass t a op x) I.so_far p
 
@@ -64,7 +64,7 @@ module _ {count : ℕ} {m₀ : lent.Arena} {op₀ x₀ : ℕ} {m : lent.Arena} {
       here = rw q.leaves.sizes (rw e at q.op2_in);
     }
 
-  pub straightening_gone : 0 < left → (x ≡ op → ⊥) → {m' : lent.Arena} (r : Round) → Passed m m' r (straighten_pass (pts_of m) (arena_of m) op x) → r.op2 ≡ None
+  pub straightening_gone : 0 < left → (x ≡ op → ⊥) → {m' : lent.Arena} (r : RingPlace) → Passed m m' r (straighten_pass (pts_of m) (arena_of m) op x) → r.op2 ≡ None
       → EndsAt m₀ m' None (straighten pts count (arena_of m₀) op₀ x₀)
   straightening_gone h v {m'} r p e =
       let one : left ≡ suc (left - 1) = omega arith in

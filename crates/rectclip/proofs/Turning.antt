@@ -24,7 +24,7 @@ use Rattle.std.specs.Prelude.{Result, Ok, Err}
 use Rattle.rectclip.specs.Memory.{put, column}
 use Rattle.rectclip.specs.Walking.{location, walk_of, turned, Fits}
 use Rattle.rectclip.specs.declared.walk.Walker.{Walker}
-use Rattle.rectclip.specs.Steps.{walk, full, Same, Steps, Rounds}
+use Rattle.rectclip.specs.Steps.{walk, full, points, Same, Steps, Rounds}
 use Rattle.rectclip.proofs.Steps.{same_refl, same_then, stays, refused}
 use Rattle.rectclip.proofs.Steps as steps
 use Rattle.rectclip.proofs.Memory.{room_put, at_put_field}
@@ -103,28 +103,31 @@ module _ (x : Walker) (loc : Location) where
   unfolding push_start_loc
   push_is h = ap ok (walk_later loc x.fits h refl) ∙ rw (sides loc x.fits, lt-leb (length x.store.now / 2) x.state.start_locs h) refl
 
--- ---- every point of a path
-pub record Adding (path : List ℤ) (x y : Walker) (i : ℕ) : Type 0 where
-  pub goal : add_all (full x) (walk y) (drop i (points_of path)) ≡ add_all (full x) (walk x) (points_of path)
+-- ---- every point of the path
+pub record Adding (x y : Walker) (i : ℕ) : Type 0 where
+  pub goal : add_all (full x) (walk y) (drop i (points x)) ≡ add_all (full x) (walk x) (points x)
   pub same : Same x y
-  pub here : i ≤ length path / 2
+  pub here : i ≤ length x.path.now / 2
 
-module _ {path : List ℤ} {x y : Walker} {i : ℕ} (I : Adding path x y i) where
-  module _ (h : i < length path / 2) {pt : Point64} (ep : pt ≡ pt_at (points_of path) i) {z : Walker} {r : Result Unit Refusal} (R : Steps (add (full y) (walk y) pt false) y z r) where
-    one : Steps (add (full x) (walk y) (pt_at (points_of path) i) false) x z r
-    one = rw ep at (steps.after (λ full rect path. add full (walk y) pt false) I.same R)
+module _ {x y : Walker} {i : ℕ} (I : Adding x y i) where
+  module _ (h : i < length x.path.now / 2) {pt : Point64} (ep : pt ≡ pt_at (points y) i) {z : Walker} {r : Result Unit Refusal} (R : Steps (add (full y) (walk y) pt false) y z r) where
+    point_is : pt ≡ pt_at (points x) i
+    point_is = ep ∙ ap (λ (path : List ℤ). pt_at (points_of path) i) I.same.path
 
-    within : i < length (points_of path)
-    within = rw (points_length path) h
+    one : Steps (add (full x) (walk y) (pt_at (points x) i) false) x z r
+    one = rw point_is at (steps.after (λ full rect path. add full (walk y) pt false) I.same R)
 
-    pub adding_on : {u : Unit} → r ≡ Ok u → Adding path x z (i + 1)
-    adding_on e = record { goal = all_go _ (walk y) (walk z) 0 i (points_of path) within (steps.done_is one e) ∙ I.goal; same = one.same; here = omega arith }
+    within : i < length (points x)
+    within = rw (points_length x.path.now) h
 
-    pub adding_lost : {why : Refusal} → r ≡ Err why → Steps (add_all (full x) (walk x) (points_of path)) x z (Err why)
-    adding_lost e = record { same = one.same; is = all_stop _ (walk y) (walk y) _ i (points_of path) within (steps.refused_is one e) ∙ I.goal }
+    pub adding_on : {u : Unit} → r ≡ Ok u → Adding x z (i + 1)
+    adding_on e = record { goal = all_go _ (walk y) (walk z) 0 i (points x) within (steps.done_is one e) ∙ I.goal; same = one.same; here = omega arith }
 
-  pub adding_ends : length path / 2 ≤ i → Steps (add_all (full x) (walk x) (points_of path)) x y (Ok tt)
-  adding_ends h = record { same = I.same; is = all_end _ (walk y) (points_of path) i (rw (points_length path) (omega (arith, I.here))) ∙ I.goal }
+    pub adding_lost : {why : Refusal} → r ≡ Err why → Steps (add_all (full x) (walk x) (points x)) x z (Err why)
+    adding_lost e = record { same = one.same; is = all_stop _ (walk y) (walk y) _ i (points x) within (steps.refused_is one e) ∙ I.goal }
+
+  pub adding_ends : length x.path.now / 2 ≤ i → Steps (add_all (full x) (walk x) (points x)) x y (Ok tt)
+  adding_ends h = record { same = I.same; is = all_end _ (walk y) (points x) i (rw (points_length x.path.now) (omega (arith, I.here))) ∙ I.goal }
 
 -- ---- round the boundary
 pub corner_rounds : (full : ℕ → Bool) (rect : Rect64) (loc : Location) (cw : Bool) → Rounds loc cw (λ w p. add full w (turned rect p cw) false) (λ left w p. add_corners full rect left w p loc cw)

@@ -18,7 +18,7 @@ use Rattle.rectclip.specs.declared.regroup.Four.{Four}
 use Rattle.rectclip.specs.declared.settle.Turn.{Turn}
 use Rattle.rectclip.specs.Arenas.{Space, Spare}
 use Rattle.rectclip.specs.Changes.{arena_of, pts_of, Leaves, Becomes}
-use Rattle.rectclip.specs.Turns.{Sought, four, Fourth, joined, split, regrouped, set_roots, Settling, Settled, Whole, Groups, Rejoining, Turning}
+use Rattle.rectclip.specs.Turns.{Sought, four, Fourth, joined, split, regrouped, set_roots, Settling, Settled, Whole, Groups, Rejoining}
 use Rattle.rectclip.proofs.Spare.{by_test}
 use Rattle.rectclip.proofs.Space.{space_less, space_fewer, space_entry, space_joined, space_split, space_roots}
 use Rattle.rectclip.proofs.Changes.{list_long, points_many, becomes_left, becomes_same, becomes_renamed, points_stay, then_becomes}
@@ -39,26 +39,26 @@ unfolding regroup regrouped joined split relink
 regroup_is pts n idx a f b e = rw (← e) refl
 
 -- ---- rejoin
-module _ {m : lent.Arena} {idx i j r1 r2 : ℕ} {f : Four} (x : Rejoining m idx i j r1 r2 f)
+module _ {m : lent.Arena} {at : Turn} {r1 r2 : ℕ} {f : Four} (x : Rejoining m at r1 r2 f)
     (o1 o2 : ℕ) (e1 : o1 ≡ owner_of (arena_of m) r1) (e2 : o2 ≡ owner_of (arena_of m) r2)
-    {m₁ : lent.Arena} (g : Groups m m₁ (regrouped idx m.sizes.nodes (arena_of m) (four f) (not (eqb o1 o2))))
-    (op op2 : ℕ) (eo : op ≡ first_op (cw_is_toward_larger idx) (four f)) (eo2 : op2 ≡ second_op (cw_is_toward_larger idx) (four f)) where
+    {m₁ : lent.Arena} (g : Groups m m₁ (regrouped at.side.idx m.sizes.nodes (arena_of m) (four f) (not (eqb o1 o2))))
+    (op op2 : ℕ) (eo : op ≡ first_op (cw_is_toward_larger at.side.idx) (four f)) (eo2 : op2 ≡ second_op (cw_is_toward_larger at.side.idx) (four f)) where
   pub op_within : op < m₁.sizes.nodes
-  op_within = omega (arith, eo, g.becomes.nodes, by_test (cw_is_toward_larger idx) (λ b. (if b then f.p2 else f.p1) < m.sizes.nodes) x.four_in.p2_in x.four_in.p1_in)
+  op_within = omega (arith, eo, g.becomes.nodes, by_test (cw_is_toward_larger at.side.idx) (λ b. (if b then f.p2 else f.p1) < m.sizes.nodes) x.four_in.p2_in x.four_in.p1_in)
 
   pub op2_within : op2 < m₁.sizes.nodes
-  op2_within = omega (arith, eo2, g.becomes.nodes, by_test (cw_is_toward_larger idx) (λ b. (if b then f.p1a else f.p2a) < m.sizes.nodes) x.four_in.p1a_in x.four_in.p2a_in)
+  op2_within = omega (arith, eo2, g.becomes.nodes, by_test (cw_is_toward_larger at.side.idx) (λ b. (if b then f.p1a else f.p2a) < m.sizes.nodes) x.four_in.p1a_in x.four_in.p2a_in)
 
   module _ {m₂ : lent.Arena} (l : Leaves m₁ m₂ (set_roots (arena_of m₁) op op2)) where
     -- the arena to settle, and the turn
     b : Arena
-    b = set_roots (regrouped idx m.sizes.nodes (arena_of m) (four f) (not (eqb o1 o2))) op op2
+    b = set_roots (regrouped at.side.idx m.sizes.nodes (arena_of m) (four f) (not (eqb o1 o2))) op op2
 
     to_b : arena_of m₂ ≡ b
     unfolding b
     to_b = l.is ∙ ap (λ a. set_roots a op op2) g.becomes.is
 
-    pub may_settle : Settling m₂ idx i j op op2
+    pub may_settle : Settling m₂ at op op2
     unfolding b
     may_settle =
         let k = becomes_left l in
@@ -70,23 +70,24 @@ module _ {m : lent.Arena} {idx i j r1 r2 : ℕ} {f : Four} (x : Rejoining m idx 
           room = λ e h. omega (arith, there.lists e h, list_long m₂ e h, g.becomes.slots, k.slots);
         }
 
-    is_turn : settle (pts_of m) idx b i j op op2 ≡ rejoin (pts_of m) idx (arena_of m) i j r1 r2 (four f)
+    is_turn : settle (pts_of m) at.side.idx b at.i at.j op op2 ≡ rejoin (pts_of m) at.side.idx (arena_of m) at.i at.j r1 r2 (four f)
     unfolding b rejoin set_roots
     is_turn =
         let pts = pts_of m in
         let a = arena_of m in
-        let grouped : regrouped idx m.sizes.nodes a (four f) (not (eqb o1 o2)) ≡ regroup (cw_is_toward_larger idx) (length pts) a (four f) (not (eqb (owner_of a r1) (owner_of a r2))) =
-        (λ q. regrouped idx m.sizes.nodes a (four f) (not (eqb (e1 q) (e2 q)))) ∙ regroup_is pts m.sizes.nodes idx a (four f) (not (eqb (owner_of a r1) (owner_of a r2))) (points_many m) in
-        λ q. settle pts idx (set_roots (grouped q) (eo q) (eo2 q)) i j (eo q) (eo2 q)
+        let grouped : regrouped at.side.idx m.sizes.nodes a (four f) (not (eqb o1 o2)) ≡ regroup (cw_is_toward_larger at.side.idx) (length pts) a (four f) (not (eqb (owner_of a r1) (owner_of a r2))) =
+        (λ q. regrouped at.side.idx m.sizes.nodes a (four f) (not (eqb (e1 q) (e2 q)))) ∙ regroup_is pts m.sizes.nodes at.side.idx a (four f) (not (eqb (owner_of a r1) (owner_of a r2))) (points_many m) in
+        λ q. settle pts at.side.idx (set_roots (grouped q) (eo q) (eo2 q)) at.i at.j (eo q) (eo2 q)
 
-    pub rejoined : {m₃ : lent.Arena} (t : Turn) → Settled m₂ m₃ t (settle (pts_of m₂) idx (arena_of m₂) i j op op2) → Whole m m₃ t (rejoin (pts_of m) idx (arena_of m) i j r1 r2 (four f))
+    pub rejoined : {m₃ : lent.Arena} (t : Turn) → Settled m₂ m₃ at t (settle (pts_of m₂) at.side.idx (arena_of m₂) at.i at.j op op2) → Whole m m₃ at t (rejoin (pts_of m) at.side.idx (arena_of m) at.i at.j r1 r2 (four f))
     unfolding b
     rejoined t k =
         let roots = then_becomes (λ _ _ a. set_roots a op op2) g.becomes (becomes_left l) in
-        let same : settle (pts_of m₂) idx (arena_of m₂) i j op op2 ≡ rejoin (pts_of m) idx (arena_of m) i j r1 r2 (four f) = (λ q. settle (points_stay roots q) idx (to_b q) i j op op2) ∙ is_turn in
+        let same : settle (pts_of m₂) at.side.idx (arena_of m₂) at.i at.j op op2 ≡ rejoin (pts_of m) at.side.idx (arena_of m) at.i at.j r1 r2 (four f) = (λ q. settle (points_stay roots q) at.side.idx (to_b q) at.i at.j op op2) ∙ is_turn in
         record {
           turned = record {
-            becomes = becomes_renamed (then_becomes (λ pts _ a. (settle pts idx a i j op op2).arena) roots k.turned.becomes) (ap (λ z. z.arena) is_turn);
+            becomes = becomes_renamed (then_becomes (λ pts _ a. (settle pts at.side.idx a at.i at.j op op2).arena) roots k.turned.becomes) (ap (λ z. z.arena) is_turn);
+            side = k.turned.side;
             i = k.turned.i ∙ ap (λ z. z.i) same;
             j = k.turned.j ∙ ap (λ z. z.j) same;
           };
@@ -113,64 +114,84 @@ turn_sought pts idx a i j k e = λ q.
     let r2 = get_or (edge_list a (idx * 2 + 1)) (e q) none in
     turn_by pts idx a i r1 (e q) r2 (four_of (cw_is_toward_larger idx) a r1 r2)
 
-module _ {m : lent.Arena} {idx : ℕ} (x : Turning m idx) (i j r1 : ℕ) (e1 : r1 ≡ get_or (edge_list (arena_of m) (idx * 2)) i none) where
-  -- k is where `seek` stops, r2 the entry there
-  stop : ℕ
-  stop = seek (arena_of m) j (drop j (edge_list (arena_of m) (idx * 2 + 1)))
+-- a turn is told by its side alone
+whole_from : {m m₁ : lent.Arena} {u : Turn} {b : reference.Turn} (at at' : Turn) → at.side.idx ≡ at'.side.idx → Whole m m₁ at u b → Whole m m₁ at' u b
+whole_from at at' e k = record {
+  turned = record { becomes = k.turned.becomes; side = k.turned.side ∙ e; i = k.turned.i; j = k.turned.j };
+  space = k.space;
+}
 
-  other : ℕ
-  other = get_or (edge_list (arena_of m) (idx * 2 + 1)) stop none
+module _ (at : Turn) where
+  abbrev idx : ℕ
+  idx = at.side.idx
 
-  turn_is : (f : reference.Four) → f ≡ four_of (cw_is_toward_larger idx) (arena_of m) r1 other → turn_by (pts_of m) idx (arena_of m) i r1 stop other f ≡ one_turn (pts_of m) idx (arena_of m) i j
-  unfolding one_turn turn_by stop other
-  turn_is f e =
-      λ q. turn_by (pts_of m) idx (arena_of m) i (e1 q) stop other ((e ∙ ap (λ (r : ℕ). four_of (cw_is_toward_larger idx) (arena_of m) r other) e1) q)
+  abbrev i : ℕ
+  i = at.i
 
-  untouched : (i' j' : ℕ) → turn (arena_of m) i' j' ≡ one_turn (pts_of m) idx (arena_of m) i j → Whole m m (turn_at i' j') (one_turn (pts_of m) idx (arena_of m) i j)
-  untouched i' j' e = record {
-    turned = record { becomes = becomes_renamed becomes_same (ap (λ z. z.arena) e); i = ap (λ z. z.i) e; j = ap (λ z. z.j) e };
-    space = λ N n S. subst (λ z. Spare N n z.arena) e (space_less (space_fewer S));
-  }
+  abbrev j : ℕ
+  j = at.j
 
-  pub turn_none : r1 ≡ none → Whole m m (turn_at (i + 1) 0) (one_turn (pts_of m) idx (arena_of m) i j)
-  unfolding turn_by
-  turn_none q = untouched (i + 1) 0 (rw (eq-eqb r1 none q) at (turn_is (four_of (cw_is_toward_larger idx) (arena_of m) r1 other) refl))
+  side_in : idx < 4
+  side_in = at.side.within
 
-  module _ (q : r1 ≡ none → ⊥) where
-    pub turn_stub : is_stub (arena_of m) r1 ≡ true → {m₁ : lent.Arena} → Leaves m m₁ (set_entry (arena_of m) (idx * 2) i none)
-        → Whole m m₁ (turn_at (i + 1) 0) (one_turn (pts_of m) idx (arena_of m) i j)
+  module _ (m : lent.Arena) (r1 : ℕ) (e1 : r1 ≡ get_or (edge_list (arena_of m) (idx * 2)) i none) where
+    -- k is where `seek` stops, r2 the entry there
+    stop : ℕ
+    stop = seek (arena_of m) j (drop j (edge_list (arena_of m) (idx * 2 + 1)))
+
+    other : ℕ
+    other = get_or (edge_list (arena_of m) (idx * 2 + 1)) stop none
+
+    turn_is : (f : reference.Four) → f ≡ four_of (cw_is_toward_larger idx) (arena_of m) r1 other → turn_by (pts_of m) idx (arena_of m) i r1 stop other f ≡ one_turn (pts_of m) idx (arena_of m) i j
+    unfolding one_turn turn_by stop other
+    turn_is f e =
+        λ q. turn_by (pts_of m) idx (arena_of m) i (e1 q) stop other ((e ∙ ap (λ (r : ℕ). four_of (cw_is_toward_larger idx) (arena_of m) r other) e1) q)
+
+    untouched : (i' j' : ℕ) → turn (arena_of m) i' j' ≡ one_turn (pts_of m) idx (arena_of m) i j → Whole m m at (turn_at at.side i' j') (one_turn (pts_of m) idx (arena_of m) i j)
+    untouched i' j' e = record {
+      turned = record { becomes = becomes_renamed becomes_same (ap (λ z. z.arena) e); side = refl; i = ap (λ z. z.i) e; j = ap (λ z. z.j) e };
+      space = λ N n S. subst (λ z. Spare N n z.arena) e (space_less (space_fewer S));
+    }
+
+    pub turn_none : r1 ≡ none → Whole m m at (turn_at at.side (i + 1) 0) (one_turn (pts_of m) idx (arena_of m) i j)
     unfolding turn_by
-    turn_stub t l =
-        let e : turn (set_entry (arena_of m) (idx * 2) i none) (i + 1) 0 ≡ one_turn (pts_of m) idx (arena_of m) i j =
-        rw (ne_eqb r1 none q, t) at (turn_is (four_of (cw_is_toward_larger idx) (arena_of m) r1 other) refl) in
-        record {
-          turned = record { becomes = becomes_renamed (becomes_left l) (ap (λ z. z.arena) e); i = ap (λ z. z.i) e; j = ap (λ z. z.j) e };
-          space = λ N n S. subst (λ z. Spare N n z.arena) e (space_less (space_fewer (space_entry (idx * 2) i none (omega (arith, x.side_in)) S)));
-        }
+    turn_none q = untouched (i + 1) 0 (rw (eq-eqb r1 none q) at (turn_is (four_of (cw_is_toward_larger idx) (arena_of m) r1 other) refl))
 
-    module _ (t : is_stub (arena_of m) r1 ≡ false) (k : ℕ) (z : Sought (arena_of m) (idx * 2 + 1) j k) where
-      pub turn_end : get_or m.sizes.lens (idx * 2 + 1) 0 ≤ k → Whole m m (turn_at (i + 1) 0) (one_turn (pts_of m) idx (arena_of m) i j)
-      unfolding turn_by stop
-      turn_end h =
-          let l : length (edge_list (arena_of m) (idx * 2 + 1)) ≤ stop = omega (arith, z.is, list_long m (idx * 2 + 1) (omega (arith, x.side_in))) in
-          untouched (i + 1) 0 (rw (ne_eqb r1 none q, t, le-leb (length (edge_list (arena_of m) (idx * 2 + 1))) stop l) at (turn_is (four_of (cw_is_toward_larger idx) (arena_of m) r1 other) refl))
+    module _ (q : r1 ≡ none → ⊥) where
+      pub turn_stub : is_stub (arena_of m) r1 ≡ true → {m₁ : lent.Arena} → Leaves m m₁ (set_entry (arena_of m) (idx * 2) i none)
+          → Whole m m₁ at (turn_at at.side (i + 1) 0) (one_turn (pts_of m) idx (arena_of m) i j)
+      unfolding turn_by
+      turn_stub t l =
+          let e : turn (set_entry (arena_of m) (idx * 2) i none) (i + 1) 0 ≡ one_turn (pts_of m) idx (arena_of m) i j =
+          rw (ne_eqb r1 none q, t) at (turn_is (four_of (cw_is_toward_larger idx) (arena_of m) r1 other) refl) in
+          record {
+            turned = record { becomes = becomes_renamed (becomes_left l) (ap (λ z. z.arena) e); side = refl; i = ap (λ z. z.i) e; j = ap (λ z. z.j) e };
+            space = λ N n S. subst (λ z. Spare N n z.arena) e (space_less (space_fewer (space_entry (idx * 2) i none (omega (arith, side_in)) S)));
+          }
 
-      module _ (h : k < get_or m.sizes.lens (idx * 2 + 1) 0) (r2 : ℕ) (e2 : r2 ≡ get_or (edge_list (arena_of m) (idx * 2 + 1)) k none) (f : Four) (v : Fourth m.sizes.nodes f (four_of (cw_is_toward_larger idx) (arena_of m) r1 r2)) where
-        -- the turn over what the code has read
-        read : turn_by (pts_of m) idx (arena_of m) i r1 k r2 (four f) ≡ one_turn (pts_of m) idx (arena_of m) i j
-        unfolding stop other
-        read =
-            let to : r2 ≡ other = e2 ∙ ap (λ (p : ℕ). get_or (edge_list (arena_of m) (idx * 2 + 1)) p none) z.is in
-            (λ p. turn_by (pts_of m) idx (arena_of m) i r1 (z.is p) (to p) ((v.is ∙ ap (four_of (cw_is_toward_larger idx) (arena_of m) r1) to) p)) ∙ turn_is (four_of (cw_is_toward_larger idx) (arena_of m) r1 other) refl
+      module _ (t : is_stub (arena_of m) r1 ≡ false) (k : ℕ) (z : Sought (arena_of m) (idx * 2 + 1) j k) where
+        pub turn_end : get_or m.sizes.lens (idx * 2 + 1) 0 ≤ k → Whole m m at (turn_at at.side (i + 1) 0) (one_turn (pts_of m) idx (arena_of m) i j)
+        unfolding turn_by stop
+        turn_end h =
+            let l : length (edge_list (arena_of m) (idx * 2 + 1)) ≤ stop = omega (arith, z.is, list_long m (idx * 2 + 1) (omega (arith, side_in))) in
+            untouched (i + 1) 0 (rw (ne_eqb r1 none q, t, le-leb (length (edge_list (arena_of m) (idx * 2 + 1))) stop l) at (turn_is (four_of (cw_is_toward_larger idx) (arena_of m) r1 other) refl))
 
-        long : leb (length (edge_list (arena_of m) (idx * 2 + 1))) k ≡ false
-        long = lt-leb (length (edge_list (arena_of m) (idx * 2 + 1))) k (omega (arith, list_long m (idx * 2 + 1) (omega (arith, x.side_in))))
+        module _ (h : k < get_or m.sizes.lens (idx * 2 + 1) 0) (r2 : ℕ) (e2 : r2 ≡ get_or (edge_list (arena_of m) (idx * 2 + 1)) k none) (f : Four) (v : Fourth m.sizes.nodes at.side f (four_of (cw_is_toward_larger idx) (arena_of m) r1 r2)) where
+          -- the turn over what the code has read
+          read : turn_by (pts_of m) idx (arena_of m) i r1 k r2 (four f) ≡ one_turn (pts_of m) idx (arena_of m) i j
+          unfolding stop other
+          read =
+              let to : r2 ≡ other = e2 ∙ ap (λ (p : ℕ). get_or (edge_list (arena_of m) (idx * 2 + 1)) p none) z.is in
+              (λ p. turn_by (pts_of m) idx (arena_of m) i r1 (z.is p) (to p) ((v.is ∙ ap (four_of (cw_is_toward_larger idx) (arena_of m) r1) to) p)) ∙ turn_is (four_of (cw_is_toward_larger idx) (arena_of m) r1 other) refl
 
-        pub turn_apart : {meets : Bool} → meets ≡ overlap (pts_of m) (is_horz idx) (four f) → meets ≡ false → Whole m m (turn_at i (k + 1)) (one_turn (pts_of m) idx (arena_of m) i j)
-        unfolding turn_by
-        turn_apart w o = untouched i (k + 1) (rw (ne_eqb r1 none q, t, long, ← w, o) at read)
+          long : leb (length (edge_list (arena_of m) (idx * 2 + 1))) k ≡ false
+          long = lt-leb (length (edge_list (arena_of m) (idx * 2 + 1))) k (omega (arith, list_long m (idx * 2 + 1) (omega (arith, side_in))))
 
-        pub turn_rejoined : {meets : Bool} → meets ≡ overlap (pts_of m) (is_horz idx) (four f) → meets ≡ true → {m₁ : lent.Arena} (u : Turn)
-            → Whole m m₁ u (rejoin (pts_of m) idx (arena_of m) i k r1 r2 (four f)) → Whole m m₁ u (one_turn (pts_of m) idx (arena_of m) i j)
-        unfolding turn_by
-        turn_rejoined w o {m₁} u y = subst (λ b. Whole m m₁ u b) (rw (ne_eqb r1 none q, t, long, ← w, o) at read) y
+          pub turn_apart : {meets : Bool} → meets ≡ overlap (pts_of m) (is_horz idx) (four f) → meets ≡ false → Whole m m at (turn_at at.side i (k + 1)) (one_turn (pts_of m) idx (arena_of m) i j)
+          unfolding turn_by
+          turn_apart w o = untouched i (k + 1) (rw (ne_eqb r1 none q, t, long, ← w, o) at read)
+
+          pub turn_rejoined : {meets : Bool} → meets ≡ overlap (pts_of m) (is_horz idx) (four f) → meets ≡ true → {m₁ : lent.Arena} (u : Turn)
+              → Whole m m₁ (turn_at at.side i k) u (rejoin (pts_of m) idx (arena_of m) i k r1 r2 (four f)) → Whole m m₁ at u (one_turn (pts_of m) idx (arena_of m) i j)
+          unfolding turn_by
+          turn_rejoined w o {m₁} u y = whole_from (turn_at at.side i k) at refl (subst (λ b. Whole m m₁ (turn_at at.side i k) u b) (rw (ne_eqb r1 none q, t, long, ← w, o) at read) y)

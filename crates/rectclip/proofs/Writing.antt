@@ -1,217 +1,135 @@
--- Lists that are being filled: one entry more, one point more, and the points of one result more. Assumes nothing.
+-- Paths written to the caller's lists, one behind the other, and lists written from their start. Assumes nothing.
 use mathlib.Core.Path.{◌≡◌, refl, sym, ◌∙◌, ap}
-use mathlib.Core.List.{List, [], ◌∷◌, ◌++◌, map, map-append, append_assoc, append-nil}
-use Prim.Native.Nat.{ℕ, zero, suc, ◌+◌, ◌-◌, ◌*◌, ◌<◌, ◌≤◌}
+use mathlib.Core.List.{List, [], ◌∷◌, ◌++◌, map, append-nil, append_assoc}
+use Prim.Native.Nat.{ℕ, suc, ◌+◌, ◌*◌, ◌/◌, ◌%◌, ◌-◌, ◌≤◌}
 use native.Mathlib.Omega.{arith}
-use native.Mathlib.Numerals.{add-one}
+use borrow.Rule.Slice.PartMut.{put_mid}
 use lib.IntN.{ℤ}
-use lib.ListN.{length, take, drop, set, length-append, length-drop, length-set, length-map}
-use lib.Seq.{take-suc, take-take, length-take-le, drop-append-le}
+use lib.ListN.{length, drop, take, set, length-append, length-drop, length-map}
+use lib.Seq.{sets, sets-eq, length-sets, drop-drop}
 use Rattle.plane.specs.declared.point.Point64.{Point64}
-use Rattle.plane.specs.Points.{origin, pt_at, points_of, coordinates_of}
+use Rattle.plane.specs.Points.{points_of, coordinates_of}
 use Rattle.reference.specs.Entry.{joined, filled}
-use Rattle.rectclip.specs.declared.walk.WalkState.{WalkState}
+use Rattle.rectclip.specs.declared.output.Output.{Output}
 use Rattle.rectclip.specs.Memory.{put_point}
-use Rattle.rectclip.specs.Walking.{walk_of, Fits}
-use Rattle.rectclip.specs.Pieces.{paths_of, start_of, Copies, Copied, Writes, Written}
+use Rattle.rectclip.specs.Outputs.{Takes, SameLists, Written, Pointed, Ended, Puts}
 use Rattle.rectclip.proofs.Coordinates.{points_length}
-use Rattle.rectclip.proofs.Adding.{walk_points, walk_length}
-use Rattle.rectclip.proofs.Results.{Partly, Counting, joined_push, piece_length, partly_all, partly_long, partly_skips, counted_more, summed_more, partly_paths, partly_points, starts_length, start_here, start_next, start_within, count_more, count_same}
+use Rattle.rectclip.proofs.Results.{joined_append}
 
--- one entry more
-pub set_filled : {A : Type 0} (new old : List A) (v : A) → length new < length old → set (filled new old) (length new) v ≡ filled (new ++ v ∷ []) old
-set_filled [] [] v h = absurd (omega arith)
-set_filled [] (x ∷ old) v h = refl
-set_filled (y ∷ new) [] v h = absurd (omega arith)
-set_filled {A} (y ∷ new) (x ∷ old) v h = ap (λ (l : List A). y ∷ l) (set_filled new old v (omega arith))
+-- ---- lists
+sets_append : {A : Type 0} (c : List A) (k : ℕ) (xs ys : List A) → sets c k (xs ++ ys) ≡ sets (sets c k xs) (k + length xs) ys
+sets_append c k [] ys = ap (λ (i : ℕ). sets c i ys) (omega arith)
+sets_append c k (x ∷ xs) ys = sets_append (set c k x) (suc k) xs ys ∙ ap (λ (i : ℕ). sets (sets (set c k x) (suc k) xs) i ys) (omega arith)
 
--- one point more
-pub put_filled : (new : List Point64) (old : List ℤ) (p : Point64) → 2 * length new + 1 < length old → put_point (filled (coordinates_of new) old) (length new) p ≡ filled (coordinates_of (new ++ p ∷ [])) old
-unfolding put_point
-put_filled [] [] p h = absurd (omega arith)
-put_filled [] (x ∷ []) p h = absurd (omega arith)
-put_filled [] (x ∷ y ∷ old) p h = refl
-put_filled (q ∷ new) [] p h = absurd (omega arith)
-put_filled (q ∷ new) (x ∷ []) p h = absurd (omega arith)
-put_filled (q ∷ new) (x ∷ y ∷ old) p h =
-    let n = length new in
-    let a : 2 * suc n ≡ suc (suc (2 * n)) = omega arith in
-    let b : 2 * suc n + 1 ≡ suc (suc (2 * n + 1)) = omega arith in
-    (λ k. set (set (q.x ∷ q.y ∷ filled (coordinates_of new) old) (a k) p.x) (b k) p.y)
-    ∙ ap (λ (l : List ℤ). q.x ∷ q.y ∷ l) (put_filled new old p (omega arith))
+pub map_join : {A B : Type 0} (f : A → B) (xs ys : List A) → map f (xs ++ ys) ≡ map f xs ++ map f ys
+map_join f [] ys = refl
+map_join f (x ∷ xs) ys = ap (λ l. f x ∷ l) (map_join f xs ys)
 
--- ---- points of the store, one after the other
-part_more : (Q : List Point64) (from i : ℕ) → from ≤ i → i < length Q → drop from (take (i + 1) Q) ≡ drop from (take i Q) ++ pt_at Q i ∷ []
-part_more Q from i h k =
-    rw (add-one i, take-suc Q i origin k) (drop-append-le from (take i Q) (pt_at Q i ∷ []) (rw (length-take-le i Q (omega arith)) h))
-
-pub record Copying (store : List ℤ) (from to at : ℕ) (list₀ list : List ℤ) (i k : ℕ) : Type 0 where
-  pub copied : Copied store from i at list₀ list
-  pub above : from ≤ i
-  pub below : i ≤ to
-  pub place : k + from ≡ at + i
-  pub kept : length list ≡ length list₀
-
-nothing : (n : ℕ) (Q : List Point64) → drop n (take n Q) ≡ []
-nothing zero Q = refl
-nothing (suc n) [] = refl
-nothing (suc n) (q ∷ Q) = nothing n Q
+coordinates_join : (P Q : List Point64) → coordinates_of (P ++ Q) ≡ coordinates_of P ++ coordinates_of Q
+coordinates_join [] Q = refl
+coordinates_join (p ∷ P) Q = ap (λ (l : List ℤ). p.x ∷ p.y ∷ l) (coordinates_join P Q)
 
 pub coordinates_length : (Q : List Point64) → length (coordinates_of Q) ≡ 2 * length Q
 coordinates_length [] = refl
 coordinates_length (q ∷ Q) = ap (λ (n : ℕ). suc (suc n)) (coordinates_length Q) ∙ omega arith
 
+-- a list of coordinates that has them in pairs is that of its points
+pub coordinates_back : (l : List ℤ) → length l % 2 ≡ 0 → coordinates_of (points_of l) ≡ l
+coordinates_back [] h = refl
+coordinates_back (x ∷ []) h = absurd (omega arith)
+coordinates_back (x ∷ y ∷ l) h = ap (λ (k : List ℤ). x ∷ y ∷ k) (coordinates_back l (omega arith))
+
 pub filled_length : {A : Type 0} (new old : List A) → length (filled new old) ≡ length new + (length old - length new)
 filled_length new old = length-append new (drop (length new) old) ∙ ap (λ (n : ℕ). length new + n) (length-drop (length new) old)
 
-pub copying_none : (store list : List ℤ) (from to at : ℕ) → from ≤ to → Copying store from to at list list from at
-copying_none store list from to at h = record {
-  copied = record { is = λ done old e q. q ∙ rw (nothing from (points_of store), append-nil done) refl };
-  above = omega arith;
-  below = h;
-  place = omega arith;
-  kept = refl;
-}
+-- a list written from its start has those entries in front
+pub sets_filled : {A : Type 0} (c v : List A) → length v ≤ length c → sets c 0 v ≡ filled v c
+sets_filled c v h = let e : 0 + length v ≡ length v = omega arith in sets-eq v c 0 (omega arith) ∙ ap (λ (k : ℕ). v ++ drop k c) e
 
-module _ {store : List ℤ} {from to at : ℕ} {list₀ list : List ℤ} {i k : ℕ} (C : Copies store list₀ from to at) (I : Copying store from to at list₀ list i k) where
-  abbrev Q : List Point64
-  Q = points_of store
+-- ---- one path after the other
+pub same_lists : (x : Output) → SameLists x x
+same_lists x = record { coordinates = refl; lengths = refl }
 
-  module _ (h : i < to) where
-    in_store : i < length Q
-    in_store = rw (points_length store) (omega (arith, C.source))
+pub same_lists_then : {x y z : Output} → SameLists x y → SameLists y z → SameLists x z
+same_lists_then S T = record { coordinates = T.coordinates ∙ S.coordinates; lengths = T.lengths ∙ S.lengths }
 
-    part_length : length (drop from (take i Q)) ≡ i - from
-    part_length = length-drop from (take i Q) ∙ ap (λ (n : ℕ). n - from) (length-take-le i Q (let z = in_store in omega arith))
+pub written_none : (x : Output) → Written x x []
+written_none x = record { coordinates = refl; lengths = refl; points = omega arith; paths = omega arith; same = same_lists x }
 
-    pub copying_more : {p : Point64} → p ≡ pt_at Q i → {list' : List ℤ} → list' ≡ put_point list k p → length list' ≡ length list → Copying store from to at list₀ list' (i + 1) (k + 1)
-    copying_more {p} ep {list'} el a = record {
-      copied = record {
-        is = λ done old e q.
-            let N = done ++ drop from (take i Q) in
-            let n : length N ≡ k = rw (length-append done (drop from (take i Q)), part_length, e) (omega (arith, I.place, I.above)) in
-            let l : length list₀ ≡ 2 * at + (length old - 2 * at) = ap length q ∙ filled_length (coordinates_of done) old ∙ rw (coordinates_length done, e) refl in
-            let room : 2 * length N + 1 < length old = rw n (omega (arith, C.target, I.place, I.above)) in
-            el
-            ∙ (λ j. put_point (I.copied.is done old e q j) (sym n j) (ep j))
-            ∙ put_filled N old (pt_at Q i) room
-            ∙ ap (λ (m : List Point64). filled (coordinates_of m) old) (append_assoc done (drop from (take i Q)) (pt_at Q i ∷ []) ∙ ap (λ (m : List Point64). done ++ m) (sym (part_more Q from i I.above in_store)));
-      };
-      above = omega (arith, I.above);
-      below = omega arith;
-      place = omega (arith, I.place);
-      kept = a ∙ I.kept;
-    }
+pub joined_length : (ps qs : List (List Point64)) → length (joined (ps ++ qs)) ≡ length (joined ps) + length (joined qs)
+joined_length ps qs = ap length (joined_append ps qs) ∙ length-append (joined ps) (joined qs)
 
-    -- what the loop's calls need
-    pub copying_fits : (2 * i + 1 < length store) × (2 * k + 1 < length list)
-    copying_fits = (omega (arith, C.source), omega (arith, C.target, I.place, I.above, I.kept))
+pub takes_front : {x : Output} {ps : List (List Point64)} (qs : List (List Point64)) → Takes x (ps ++ qs) → Takes x ps
+takes_front {ps = ps} qs T = record { points = omega (arith, T.points, joined_length ps qs); paths = omega (arith, T.paths, length-append ps qs) }
 
-  pub copying_done : to ≤ i → Copied store from to at list₀ list
-  copying_done h = let e : i ≡ to = omega (arith, I.below) in rw e at I.copied
+module _ {x y : Output} {ps : List (List Point64)} (W : Written x y ps) where
+  pub takes_behind : {qs : List (List Point64)} → Takes x (ps ++ qs) → Takes y qs
+  takes_behind {qs} T = record {
+    points = omega (arith, T.points, joined_length ps qs, W.points, ap length W.coordinates ∙ length-sets x.coordinates.now (2 * x.points) (coordinates_of (joined ps)));
+    paths = omega (arith, T.paths, length-append ps qs, W.paths, ap length W.lengths ∙ length-sets x.lengths.now x.paths (map length ps));
+  }
 
--- ---- the lists that are filled, one result after the other
-pub record Writing (store : List ℤ) (work : List ℕ) (s : WalkState) (coordinates₀ : List ℤ) (lengths₀ : List ℕ) (coordinates : List ℤ) (lengths : List ℕ) (paths points j : ℕ) : Type 0 where
-  pub counting : Counting store work s paths points j
-  pub coords : coordinates ≡ filled (coordinates_of (joined counting.partly.done)) coordinates₀
-  pub counts : lengths ≡ filled (map length counting.partly.done) lengths₀
-  pub coords_kept : length coordinates ≡ length coordinates₀
-  pub counts_kept : length lengths ≡ length lengths₀
-
-pub writing_none : (store : List ℤ) (work : List ℕ) (s : WalkState) (coordinates : List ℤ) (lengths : List ℕ) → Writing store work s coordinates lengths coordinates lengths 0 0 0
-writing_none store work s coordinates lengths = record {
-  counting = record { partly = record { done = []; whole = refl; counted = refl; summed = refl }; here = omega arith; few = omega arith; within = omega arith };
-  coords = refl;
-  counts = refl;
-  coords_kept = refl;
-  counts_kept = refl;
-}
-
-module _ {store : List ℤ} {work : List ℕ} {s : WalkState} {coordinates₀ : List ℤ} {lengths₀ : List ℕ} (W : Writes store work s coordinates₀ lengths₀) {coordinates : List ℤ} {lengths : List ℕ} {paths points j : ℕ}
-    (I : Writing store work s coordinates₀ lengths₀ coordinates lengths paths points j) where
-  abbrev F : Fits store work s
-  F = W.fits
-
-  abbrev whole : List (List Point64)
-  whole = paths_of (walk_of store work s)
-
-  module _ (h : j < s.starts) {from to : ℕ} (ef : from ≡ start_of work s j) (et : to ≡ start_of work s (j + 1)) where
-    abbrev D : Partly (walk_of store work s).points (walk_of store work s).starts j paths points
-    D = I.counting.partly
-
-    to_points : to ≤ s.points
-    to_points = let z = start_within F (j + 1) in omega arith
-
-    in_points : to ≤ length (walk_of store work s).points
-    in_points = rw (walk_length F) to_points
-
-    in_starts : j < length (walk_of store work s).starts
-    in_starts = rw (starts_length F) h
-
-    slot : paths ≡ length (map length D.done)
-    slot = D.counted ∙ sym (length-map D.done length)
-
-    pub writing_same : to ≤ from + 1 → Writing store work s coordinates₀ lengths₀ coordinates lengths paths points (j + 1)
-    writing_same q =
-        let m = count_same F I.counting h ef et q in
-        record {
-          counting = record {
-            partly = record { done = D.done; whole = partly_skips D (walk_length F) in_starts (start_here F h ef) (start_next F (j + 1) et) in_points q; counted = D.counted; summed = D.summed };
-            here = m.here;
-            few = m.few;
-            within = m.within;
-          };
-          coords = I.coords;
-          counts = I.counts;
-          coords_kept = I.coords_kept;
-          counts_kept = I.counts_kept;
-        }
-
-    module _ (q : from + 1 < to) where
-      pub writes_piece : Copies store coordinates from to points
-      writes_piece = record {
-        order = omega arith;
-        source = let z = to_points in omega (arith, F.points);
-        target =
-            let z = partly_points D (walk_length F) in_starts (start_here F h ef) (start_next F (j + 1) et) in_points q in
-            rw I.coords_kept (omega (arith, W.room));
-      }
-
-      pub writes_slot : paths < length lengths
-      writes_slot =
-          let z = partly_paths D (walk_length F) in_starts (start_here F h ef) (start_next F (j + 1) et) in_points q in
-          rw I.counts_kept (omega (arith, W.slots))
-
-      same_piece : drop from (take to (points_of store)) ≡ drop from (take to (walk_of store work s).points)
-      same_piece = ap (drop from) (rw (walk_points F) (sym (take-take to s.points (points_of store) to_points)))
-
-      pub writing_more : {coordinates' : List ℤ} → Copied store from to points coordinates coordinates' → length coordinates' ≡ length coordinates
-          → Writing store work s coordinates₀ lengths₀ coordinates' (set lengths paths (to - from)) (paths + 1) (points + (to - from)) (j + 1)
-      writing_more {coordinates'} C a =
-          let piece = drop from (take to (walk_of store work s).points) in
-          let m = count_more F I.counting h ef et q in
-          record {
-            counting = record {
-              partly = record { done = D.done ++ piece ∷ []; whole = partly_long D (walk_length F) in_starts (start_here F h ef) (start_next F (j + 1) et) in_points q; counted = counted_more D (walk_length F) in_starts (start_here F h ef) (start_next F (j + 1) et) in_points; summed = summed_more D (walk_length F) in_starts (start_here F h ef) (start_next F (j + 1) et) in_points };
-              here = m.here;
-              few = m.few;
-              within = m.within;
-            };
-            coords =
-                C.is (joined D.done) coordinates₀ (sym D.summed) I.coords
-                ∙ ap (λ (l : List Point64). filled (coordinates_of l) coordinates₀) (ap (λ (l : List Point64). joined D.done ++ l) same_piece ∙ sym (joined_push D.done piece));
-            counts =
-                (λ k. set (I.counts k) (slot k) (to - from))
-                ∙ set_filled (map length D.done) lengths₀ (to - from) (rw (← slot) (rw I.counts_kept at writes_slot))
-                ∙ ap (λ (l : List ℕ). filled l lengths₀) (sym (map-append length D.done (piece ∷ []) ∙ ap (λ (n : ℕ). map length D.done ++ n ∷ []) (piece_length (walk_of store work s).points from to in_points)));
-            coords_kept = a ∙ I.coords_kept;
-            counts_kept = length-set lengths paths (to - from) ∙ I.counts_kept;
-          }
-
-  pub writing_done : s.starts ≤ j → Written whole coordinates₀ lengths₀ coordinates lengths
-  writing_done h =
-      let e = partly_all I.counting.partly (rw (starts_length F) h) in
+  pub written_then : {z : Output} {qs : List (List Point64)} → Written y z qs → Written x z (ps ++ qs)
+  written_then {z} {qs} V =
+      let next : 2 * y.points ≡ 2 * x.points + length (coordinates_of (joined ps)) = omega (arith, W.points, coordinates_length (joined ps)) in
+      let after : y.paths ≡ x.paths + length (map (length {A = Point64}) ps) = omega (arith, W.paths, length-map ps (length {A = Point64})) in
       record {
-        points = I.coords ∙ ap (λ (l : List (List Point64)). filled (coordinates_of (joined l)) coordinates₀) e;
-        counts = I.counts ∙ ap (λ (l : List (List Point64)). filled (map length l) lengths₀) e;
+        coordinates = V.coordinates ∙ (λ j. sets (W.coordinates j) (next j) (coordinates_of (joined qs)))
+            ∙ sym (sets_append x.coordinates.now (2 * x.points) (coordinates_of (joined ps)) (coordinates_of (joined qs)))
+            ∙ ap (sets x.coordinates.now (2 * x.points)) (sym (coordinates_join (joined ps) (joined qs)) ∙ ap coordinates_of (sym (joined_append ps qs)));
+        lengths = V.lengths ∙ (λ j. sets (W.lengths j) (after j) (map length qs)) ∙ sym (sets_append x.lengths.now x.paths (map length ps) (map length qs))
+            ∙ ap (sets x.lengths.now x.paths) (sym (map_join length ps qs));
+        points = omega (arith, V.points, W.points, joined_length ps qs);
+        paths = omega (arith, V.paths, W.paths, length-append ps qs);
+        same = same_lists_then W.same V.same;
       }
+
+-- ---- points of a path, and its end
+pub point_put : (c : List ℤ) (i : ℕ) (p : Point64) → put_point c i p ≡ sets c (2 * i) (p.x ∷ p.y ∷ [])
+unfolding put_point
+point_put c i p =
+    let a : 2 * i + 1 ≡ suc (2 * i) = omega arith in
+    λ j. set (set c (2 * i) p.x) (a j) p.y
+
+module _ {x y : Output} {ps : List Point64} (W : Pointed x y ps) where
+  pub pointed_length : length y.coordinates.now ≡ length x.coordinates.now
+  pointed_length = ap length W.coordinates ∙ length-sets x.coordinates.now (2 * x.points) (coordinates_of ps)
+
+  pub pointed_then : {z : Output} {qs : List Point64} → Pointed y z qs → Pointed x z (ps ++ qs)
+  pointed_then {z} {qs} V =
+      let next : 2 * y.points ≡ 2 * x.points + length (coordinates_of ps) = omega (arith, W.points, coordinates_length ps) in
+      record {
+        coordinates = V.coordinates ∙ (λ j. sets (W.coordinates j) (next j) (coordinates_of qs)) ∙ sym (sets_append x.coordinates.now (2 * x.points) (coordinates_of ps) (coordinates_of qs))
+            ∙ ap (sets x.coordinates.now (2 * x.points)) (sym (coordinates_join ps qs));
+        points = omega (arith, V.points, W.points, length-append ps qs);
+        lengths = V.lengths ∙ W.lengths;
+        paths = V.paths ∙ W.paths;
+        same = same_lists_then W.same V.same;
+      }
+
+  pub path_written : {z : Output} {n : ℕ} → n ≡ length ps → Ended y z n → Written x z (ps ∷ [])
+  path_written e E = record {
+    coordinates = E.coordinates ∙ W.coordinates ∙ ap (λ (P : List Point64). sets x.coordinates.now (2 * x.points) (coordinates_of P)) (sym (append-nil ps));
+    lengths = E.lengths ∙ (λ j. set (W.lengths j) (W.paths j) (e j));
+    points = E.points ∙ W.points ∙ ap (λ (P : List Point64). x.points + length P) (sym (append-nil ps));
+    paths = omega (arith, E.paths, W.paths);
+    same = same_lists_then W.same E.same;
+  }
+
+-- a list of coordinates that is put there whole
+pub alone_length : (path : List ℤ) → length (joined (points_of path ∷ [])) ≡ length path / 2
+alone_length path = ap length (append-nil (points_of path)) ∙ points_length path
+
+module _ {x : Output} {path : List ℤ} (P : Puts x path) where
+  pub put_room : 2 * (x.points + length path / 2) ≤ length x.coordinates.now
+  put_room = omega (arith, P.takes.points, alone_length path)
+
+  pub put_sets : {k : ℕ} → k ≡ length path → {new : List ℤ} → new ≡ path → put_mid (2 * x.points) k x.coordinates.now new ≡ sets x.coordinates.now (2 * x.points) (coordinates_of (points_of path))
+  put_sets e f =
+      let c = x.coordinates.now in
+      let i = 2 * x.points in
+      rw (f, e, coordinates_back path P.even, sets-eq path c i (omega (arith, put_room, P.even)))
+      (sym (append_assoc (take i c) path (drop (length path) (drop i c))) ∙ ap (λ (l : List ℤ). take i c ++ path ++ l) (drop-drop (length path) i c))
+
+  pub put_end : x.points + length path / 2 ≡ x.points + length (points_of path)
+  put_end = ap (λ (n : ℕ). x.points + n) (sym (points_length path))

@@ -4,6 +4,7 @@ use Rattle.std.specs.Prelude.{◌≡◌, Option, None, Some, List, [], ◌∷◌
 use Rattle.plane.specs.Basics.{none}
 use Rattle.reference.specs.Arena.{Arena, owner_of, edge_of, next_of, prev_of, result_of, edge_list}
 use Rattle.rectclip.specs.declared.arena.Sizes.{Sizes}
+use Rattle.rectclip.specs.declared.side.EdgeList.{EdgeList}
 use Rattle.rectclip.specs.Memory.{Room, column}
 
 -- the edge lists in the fields from k on, so many entries of each
@@ -25,6 +26,11 @@ arena_at m s = record {
 abbrev pub mark : Option ℕ → ℕ
 mark None = none
 mark (Some v) = v
+
+-- the same for an edge list
+abbrev pub list_mark : Option EdgeList → ℕ
+list_mark None = none
+list_mark (Some l) = l.idx
 
 -- v is the mark, or below n
 abbrev pub Marked : ℕ → ℕ → Type 0

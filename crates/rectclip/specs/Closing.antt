@@ -13,6 +13,7 @@ use Rattle.reference.specs.Walk as def
 use Rattle.entry.specs.declared.answer.Refusal.{Refusal}
 use Rattle.rectclip.specs.declared.pass.ClosedState.{ClosedState}
 use Rattle.rectclip.specs.declared.pass.Pass.{Pass}
+use Rattle.rectclip.specs.declared.corners.Way.{Way}
 use Rattle.rectclip.specs.declared.walk.Walker.{Walker}
 use Rattle.rectclip.specs.Steps.{walk, Answers}
 
@@ -31,8 +32,8 @@ pass_of x c = record {
   loc = c.loc;
   crossing_prev = c.crossing_prev;
   first_cross = c.first_cross;
-  prev_pt = c.prev_pt;
-  pt = c.pt;
+  prev_pt = c.segment.from;
+  pt = c.segment.to;
 }
 
 -- a step that answers a pass's state
@@ -40,6 +41,10 @@ abbrev pub Advances : Try State → Walker → Walker → Result ClosedState Ref
 Advances = Answers state_of
 
 -- ---- parts of a pass
+-- the way of a pass that comes to side `to`
+abbrev pub way_to : Rect64 → Pass → Location → Way
+way_to rect c to = record { from = c.prev; to = to; is_clockwise = is_clockwise_dir c.prev to c.segment.from c.segment.to (mid_point rect) }
+
 abbrev pub moves_on : Location → Location → Bool
 moves_on prev loc = not (is_inside prev) && not (same_location prev loc)
 
@@ -66,13 +71,13 @@ module _ (full : ℕ → Bool) (rect : Rect64) where
   unfoldable pub pass_in : def.Pass → Point64 → Location → Try Walk
   pass_in c ip2 loc = pass_corner full rect c.walk c.crossing_prev loc >>= λ w. pass_start full w c.first_cross c.prev >>= λ v. add full v ip2 false
 
-  -- of `pass_to`: where it goes out, on the side that the walk is at
-  unfoldable pub pass_out : Next → Point64 → Point64 → Point64 → Location → Try State
-  pass_out at pt ip ip2 first_cross =
-      let after : Location → Walk → Try State = λ l w. ok (record { walk = w; i = at.i; loc = l; crossing_loc = l; first_cross = first_cross }) in
-      let on : Location = (get_location rect pt).loc in
-      if same_point ip ip2 then (add_corner_prev_curr full rect at.walk at.loc on >>= after on)
-      else (add full at.walk ip false >>= after at.loc)
+  -- of `pass_to`: where it goes out, on side crossing_loc
+  unfoldable pub pass_out : def.Pass → Point64 → Location → Point64 → Location → Try State
+  pass_out c ip crossing_loc ip2 loc =
+      let after : Location → Walk → Try State = λ l w. ok (record { walk = w; i = c.i; loc = l; crossing_loc = l; first_cross = first_of c.first_cross loc }) in
+      let on : Location = (get_location rect c.pt).loc in
+      if same_point ip ip2 then (add_corner_prev_curr full rect c.walk crossing_loc on >>= after on)
+      else (add full c.walk ip false >>= after crossing_loc)
 
 -- one pass of the `while`
 unfoldable pub one_pass : (ℕ → Bool) → Rect64 → List Point64 → State → Try State

@@ -1,5 +1,5 @@
--- The line clipper's walk: what its functions ask of the lists, the rectangle and the segment, and what a step is as a move.
-use Rattle.std.specs.Prelude.{Bool, false, List, ℕ, ◌+◌, ◌/◌, ◌≤◌, ℤ, length, if◌then◌else◌}
+-- The line clipper's walk: parts of the definition that the code has in functions of their own.
+use Rattle.std.specs.Prelude.{Bool, false, List, ℕ, length, if◌then◌else◌}
 use Rattle.plane.specs.declared.point.Point64.{Point64}
 use Rattle.plane.specs.declared.rect.Rect64.{Rect64}
 use Rattle.plane.specs.declared.location.Location.{Location}
@@ -8,8 +8,6 @@ use Rattle.plane.specs.Locations.{is_inside}
 use Rattle.plane.specs.Points.{pt_at}
 use Rattle.reference.specs.Walk.{Walk, Next, add, get_next_location}
 use Rattle.reference.specs.Lines.{line_from, line_passes}
-use Rattle.rectclip.specs.Memory.{Room}
-use Rattle.rectclip.specs.Walking.{Sheet}
 
 -- one pass of the `while`
 abbrev pub one_pass : (ℕ → Bool) → Rect64 → List Point64 → Next → Try Next
@@ -22,9 +20,3 @@ all_passes full rect path s = line_passes full rect path (length path) s >>= λ 
 -- a walk that starts inside has the first point
 abbrev pub first_point : (ℕ → Bool) → Walk → List Point64 → Location → Try Walk
 first_point full w path loc = if is_inside loc then add full w (pt_at path 0) false else ok w
-
--- a sheet, and lists with room for a walk of it
-pub record Ready (rect : Rect64) (path store : List ℤ) (work : List ℕ) : Type 0 where
-  pub room : Room (length store / 2 + 1) work
-  pub few : length store / 2 ≤ 65536
-  pub sheet : Sheet rect path

@@ -5,14 +5,14 @@ use Rattle.plane.specs.declared.rect.Rect64.{Rect64}
 use Rattle.plane.specs.Basics.{none}
 use Rattle.reference.specs.Arena.{Arena, edge_of, result_of, assign_sides, check_ring}
 use Rattle.rectclip.specs.declared.arena.Arena as lent
+use Rattle.rectclip.specs.declared.side.EdgeList.{EdgeList}
 use Rattle.rectclip.specs.Arenas.{Spare}
 use Rattle.rectclip.specs.Changes.{arena_of}
 
--- node op may enter list e
-pub record Entering (m : lent.Arena) (e op : ℕ) : Type 0 where
-  pub list_in : e < 8
+-- node op may enter the list
+pub record Entering (m : lent.Arena) (l : EdgeList) (op : ℕ) : Type 0 where
   pub op_in : op < m.sizes.nodes
-  pub room : edge_of (arena_of m) op ≡ none → get_or m.sizes.lens e 0 < m.sizes.slots
+  pub room : edge_of (arena_of m) op ≡ none → get_or m.sizes.lens l.idx 0 < m.sizes.slots
 
 -- node op may enter any list: each node that is in none has room in all
 pub record Assigning (m : lent.Arena) (op : ℕ) : Type 0 where

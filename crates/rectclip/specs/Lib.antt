@@ -17,7 +17,9 @@ pub mod Stored
 pub mod Changes
 pub mod Rings
 pub mod Edges
+pub mod Outputs
 pub mod Paths
 pub mod Turns
 pub mod Clipping
+pub mod Calls
 pub mod Delivering

@@ -1,17 +1,18 @@
 -- `get_path` in two steps. First every ring is straightened and its result is its start or none; then the rings are read out.
 -- The nodes of a path stand for its points: `points_from` of the definition reads the points of `nodes_from`.
-use Rattle.std.specs.Prelude.{◌≡◌, Option, IfSome, List, [], ◌∷◌, ◌++◌, map, ℕ, zero, suc, ◌+◌, ◌*◌, ◌<◌, ◌≤◌, length, ℤ, eqb, if◌then◌else◌}
-use Rattle.std.proofs.lemmas.List.Edits.{sets}
+use Rattle.std.specs.Prelude.{◌≡◌, Option, IfSome, List, [], ◌∷◌, ◌++◌, map, ℕ, zero, suc, ◌+◌, ◌*◌, ◌<◌, ◌≤◌, length, eqb, if◌then◌else◌}
 use Rattle.plane.specs.declared.point.Point64.{Point64}
 use Rattle.plane.specs.Basics.{none}
-use Rattle.plane.specs.Points.{coordinates_of}
 use Rattle.reference.specs.Arena.{Arena, pt_of, next_of, result_of, set_result}
 use Rattle.reference.specs.Clip.{get_path}
 use Rattle.rectclip.specs.declared.arena.Arena as lent
 use Rattle.rectclip.specs.declared.arena.Sizes.{Sizes}
-use Rattle.rectclip.specs.declared.paths.Counts.{Counts}
+use Rattle.rectclip.specs.declared.paths.Tally.{Tally}
+use Rattle.rectclip.specs.declared.output.Output.{Output}
+use Rattle.rectclip.specs.declared.nodes.Nodes.{Nodes}
 use Rattle.rectclip.specs.Arenas.{mark}
-use Rattle.rectclip.specs.Changes.{Leaves}
+use Rattle.rectclip.specs.Changes.{arena_of, pts_of, Leaves}
+use Rattle.rectclip.specs.Outputs.{Pointed}
 
 -- ---- the first step
 -- the ring of result r is straightened, and the result set to its start
@@ -36,9 +37,17 @@ nodes_from (suc left) a start curr =
     let rest = curr ∷ nodes_from left a start (next_of a curr) in
     if eqb curr start then [] else rest
 
+-- the points that an iterator over a ring has left
+unfoldable pub points_left : Nodes → List Point64
+points_left s = map (pt_of (pts_of s.arena.now)) (nodes_from s.left (arena_of s.arena.now) s.start (next_of (arena_of s.arena.now) s.at))
+
 -- the nodes of the ring of start
 unfoldable pub nodes_of : ℕ → Arena → ℕ → List ℕ
 nodes_of n a start = start ∷ nodes_from n a start (next_of a start)
+
+-- the points of the ring of start behind that of start itself
+abbrev pub points_behind : lent.Arena → ℕ → List Point64
+points_behind m start = map (pt_of (pts_of m)) (nodes_from m.sizes.nodes (arena_of m) start (next_of (arena_of m) start))
 
 -- the nodes of each result that has a start
 unfoldable pub nodes_read : ℕ → Arena → List ℕ → List (List ℕ)
@@ -48,14 +57,14 @@ nodes_read n a (r ∷ rs) =
     let more = nodes_of n a (result_of a r) ∷ rest in
     if eqb (result_of a r) none then rest else more
 
+-- the points of those nodes: the paths of these results
+abbrev pub paths_at : lent.Arena → List ℕ → List (List Point64)
+paths_at m rs = map (map (pt_of (pts_of m))) (nodes_read m.sizes.nodes (arena_of m) rs)
+
 -- how many nodes there are in all
 abbrev pub all_nodes : List (List ℕ) → List ℕ
 all_nodes [] = []
 all_nodes (p ∷ ps) = p ++ all_nodes ps
-
--- the coordinates of the nodes' points
-unfoldable pub coordinates_at : List Point64 → List ℕ → List ℤ
-coordinates_at pts nodes = coordinates_of (map (pt_of pts) nodes)
 
 -- what a count of a ring's nodes answers
 pub record Counted (n r : ℕ) (nodes : List ℕ) : Type 0 where
@@ -63,36 +72,21 @@ pub record Counted (n r : ℕ) (nodes : List ℕ) : Type 0 where
   pub most : r ≤ n + 1
 
 -- the counts so far with those of result i: its ring's, if it has a start
-pub record CountsOn (a : Arena) (s : Sizes) (i : ℕ) (c r : Counts) : Type 0 where
+pub record CountsOn (a : Arena) (s : Sizes) (i : ℕ) (c r : Tally) : Type 0 where
   pub paths : r.paths ≡ c.paths + length (nodes_read s.nodes a (i ∷ []))
   pub points : r.points ≡ c.points + length (all_nodes (nodes_read s.nodes a (i ∷ [])))
   pub most_paths : r.paths ≤ i + 1
   pub most_points : r.points ≤ (i + 1) * (s.nodes + 1)
 
-pub record CountedAll (r : Counts) (ps : List (List ℕ)) : Type 0 where
+pub record CountedAll (r : Tally) (ps : List (List ℕ)) : Type 0 where
   pub paths : r.paths ≡ length ps
   pub points : r.points ≡ length (all_nodes ps)
 
--- the nodes' points may be read out to c from point k on
-pub record Reading (c : List ℤ) (k : ℕ) (nodes : List ℕ) : Type 0 where
-  pub room : 2 * (k + length nodes) ≤ length c
+-- the nodes' points may be read out
+pub record Reading (x : Output) (nodes : List ℕ) : Type 0 where
+  pub room : 2 * (x.points + length nodes) ≤ length x.coordinates.now
 
--- and they are: c' is c with their coordinates, and r is the point behind them
-pub record Read (c c' : List ℤ) (k r : ℕ) (pts : List Point64) (nodes : List ℕ) : Type 0 where
-  pub is : c' ≡ sets c (2 * k) (coordinates_at pts nodes)
-  pub next : r ≡ k + length nodes
-
--- the paths ps may be written behind those so far: their points' coordinates to c, their lengths to l
-pub record Writing (c : List ℤ) (l : List ℕ) (so_far : Counts) (ps : List (List ℕ)) : Type 0 where
-  pub points : 2 * (so_far.points + length (all_nodes ps)) ≤ length c
-  pub paths : so_far.paths + length ps ≤ length l
-
--- and they are, and r counts them too
-pub record Written (c c' : List ℤ) (l l' : List ℕ) (so_far r : Counts) (pts : List Point64) (ps : List (List ℕ)) : Type 0 where
-  pub coordinates : c' ≡ sets c (2 * so_far.points) (coordinates_at pts (all_nodes ps))
-  pub lengths : l' ≡ sets l so_far.paths (map length ps)
-  pub paths : r.paths ≡ so_far.paths + length ps
-  pub points : r.points ≡ so_far.points + length (all_nodes ps)
-
-unfoldable pub nothing_yet : Counts
-nothing_yet = record { paths = 0; points = 0 }
+-- and they are, r of them
+pub record Read (x y : Output) (r : ℕ) (pts : List Point64) (nodes : List ℕ) : Type 0 where
+  pub pointed : Pointed x y (map (pt_of pts) nodes)
+  pub count : r ≡ length nodes

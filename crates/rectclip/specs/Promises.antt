@@ -1,18 +1,15 @@
 -- What the entries of both clippers promise: the answer, every lent list afterwards, and demand 3 of the paths that a result returns.
-use Rattle.std.specs.Prelude.{◌≡◌, Bool, true, false, List, map, ℕ, ◌+◌, ◌/◌, ◌≤◌, ℤ, length, take, Result, Ok}
+use Rattle.std.specs.Prelude.{◌≡◌, Bool, false, List, map, ℕ, ℤ, length, take, Result, Ok}
 use Rattle.plane.specs.declared.point.Point64.{Point64}
 use Rattle.plane.specs.declared.rect.Rect64.{Rect64}
 use Rattle.plane.specs.Basics.{Try}
-use Rattle.plane.specs.Limit.{all_in_limit, rect_in_limit}
 use Rattle.plane.specs.Points.{points_of, coordinates_of}
-use Rattle.plane.specs.Rectangle.{get_bounds_path}
 use Rattle.theorems.specs.Demand.{Exactness}
-use Rattle.reference.specs.Entry.{Drawing, Lent, After, joined, drawing_of, delivered, clip_path, filled_part}
+use Rattle.reference.specs.Entry.{Drawing, Lent, After, joined, drawing_of, clip_path, filled_part}
 use Rattle.reference.specs.Walk.{no_room}
 use Rattle.entry.specs.declared.answer.Refusal.{Refusal}
 use Rattle.entry.specs.declared.answer.Counts.{Counts}
 use Rattle.entry.specs.Answers.{outcome}
-use Rattle.rectclip.specs.Memory.{Room}
 
 -- four lists lent by the caller
 abbrev pub lent : List ℤ → List ℕ → List ℤ → List ℕ → Lent
@@ -55,18 +52,6 @@ pub record ClipsPath (closed : Bool) (A : ℕ) (rect : Rect64) (path : List ℤ)
   pub returned : ReturnedBy closed rect path r after.coordinates after.lengths
 
 -- ---- words of the private functions
--- a drawing is handed out; what store and work hold does not matter
-pub record Delivers (d : Drawing) (coordinates : List ℤ) (lengths : List ℕ) (r : Result Counts Refusal) (coordinates' : List ℤ) (lengths' : List ℕ) : Type 0 where
-  pub is : (store : List ℤ) (work : List ℕ) → Leaves (delivered (lent coordinates lengths store work) d) r coordinates' lengths'
-
 -- the line clipper's drawing
 abbrev pub line_drawing : Rect64 → List ℤ → ℕ → Try Drawing
 line_drawing rect path W = drawing_of false (no_room W) 0 rect (points_of path)
-
--- a call that no early refusal stopped, and the path's bounds
-pub record Drawable (rect : Rect64) (path : List ℤ) (bounds : Rect64) (store : List ℤ) (work : List ℕ) : Type 0 where
-  pub room : Room (length store / 2 + 1) work
-  pub few : length store / 2 ≤ 65536
-  pub frame : rect_in_limit rect ≡ true
-  pub points : all_in_limit path ≡ true
-  pub bound : bounds ≡ get_bounds_path (points_of path)

@@ -5,7 +5,7 @@ use Rattle.reference.specs.Arena.{unlink, unlink_op, unlink_op_back}
 use Rattle.reference.specs.Arena as reference
 use Rattle.rectclip.specs.declared.arena.Arena as lent
 use Rattle.rectclip.specs.declared.rings.Neighbours.{Neighbours}
-use Rattle.rectclip.specs.declared.rings.Round.{Round}
+use Rattle.rectclip.specs.declared.rings.RingPlace.{RingPlace}
 use Rattle.rectclip.specs.Memory.{at}
 use Rattle.rectclip.specs.Arenas.{mark}
 use Rattle.rectclip.specs.Changes.{arena_of, Leaves}
@@ -27,7 +27,7 @@ pub record Unlinked (x y : lent.Arena) (op : ℕ) (r : Option Neighbours) : Type
   pub within : IfSome r (λ n. (n.prev < x.sizes.nodes) × (n.next < x.sizes.nodes))
 
 -- the pass leaves what the definition's b has: its arena and its two nodes, of which the second may be none
-pub record Passed (x y : lent.Arena) (r : Round) (b : reference.Round) : Type 0 where
+pub record Passed (x y : lent.Arena) (r : RingPlace) (b : reference.Round) : Type 0 where
   pub leaves : Leaves x y b.arena
   pub op : r.op ≡ b.op
   pub op2 : mark r.op2 ≡ b.op2

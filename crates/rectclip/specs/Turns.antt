@@ -10,8 +10,10 @@ use Rattle.entry.specs.declared.answer.Refusal.{Refusal}
 use Rattle.rectclip.specs.declared.arena.Arena as lent
 use Rattle.rectclip.specs.declared.regroup.Four.{Four}
 use Rattle.rectclip.specs.declared.settle.Turn.{Turn}
+use Rattle.rectclip.specs.declared.side.Side.{Side}
+use Rattle.rectclip.specs.declared.idle.Progress.{Progress}
 use Rattle.rectclip.specs.Arenas.{Space, Spare}
-use Rattle.rectclip.specs.Changes.{arena_of, Becomes}
+use Rattle.rectclip.specs.Changes.{arena_of, pts_of, Becomes}
 
 -- an entry that `seek` stops at
 abbrev pub is_live : Arena → ℕ → Bool
@@ -32,7 +34,8 @@ pub record FourIn (n : ℕ) (f : Four) : Type 0 where
   pub p2_in : f.p2 < n
   pub p2a_in : f.p2a < n
 
-pub record Fourth (n : ℕ) (f : Four) (b : reference.Four) : Type 0 where
+pub record Fourth (n : ℕ) (side : Side) (f : Four) (b : reference.Four) : Type 0 where
+  pub side_is : f.side.idx ≡ side.idx
   pub is : four f ≡ b
   pub within : FourIn n f
 
@@ -49,37 +52,37 @@ split idx n a f =
 unfoldable pub set_roots : Arena → ℕ → ℕ → Arena
 set_roots a op op2 = set_result (set_result a (owner_of a op) op) (owner_of a op2) op2
 
--- there are entries at i and j of the two lists of side idx
-pub record Entries (m : lent.Arena) (idx i j : ℕ) : Type 0 where
-  pub side_in : idx < 4
-  pub i_in : i < get_or m.sizes.lens (idx * 2) 0
-  pub j_in : j < get_or m.sizes.lens (idx * 2 + 1) 0
+-- there are entries at a turn's place in the two lists of its side
+pub record Entries (m : lent.Arena) (at : Turn) : Type 0 where
+  pub i_in : at.i < get_or m.sizes.lens (at.side.idx * 2) 0
+  pub j_in : at.j < get_or m.sizes.lens (at.side.idx * 2 + 1) 0
 
 -- one of them set to v
 unfoldable pub put_entry : ℕ → Arena → ℕ → ℕ → ℕ → Bool → Arena
 put_entry idx a i j v clockwise = if clockwise then set_entry a (idx * 2) i v else set_entry a (idx * 2 + 1) j v
 
--- the entries at i and j of side idx may be settled for the nodes op and op2, and one entry more put into a list
-pub record Settling (m : lent.Arena) (idx i j op op2 : ℕ) : Type 0 where
-  pub entries : Entries m idx i j
+-- the entries at a turn's place may be settled for the nodes op and op2, and one entry more put into a list
+pub record Settling (m : lent.Arena) (at : Turn) (op op2 : ℕ) : Type 0 where
+  pub entries : Entries m at
   pub op_in : op < m.sizes.nodes
   pub op2_in : op2 < m.sizes.nodes
   pub room : (e : ℕ) → e < 8 → get_or m.sizes.lens e 0 < m.sizes.slots
 
--- what a turn hands to the next is what the definition's b has
-pub record Turned (x y : lent.Arena) (t : Turn) (b : reference.Turn) : Type 0 where
+-- what a turn hands to the next is of the same side, and what the definition's b has
+pub record Turned (x y : lent.Arena) (at next : Turn) (b : reference.Turn) : Type 0 where
   pub becomes : Becomes x y b.arena
-  pub i : t.i ≡ b.i
-  pub j : t.j ≡ b.j
+  pub side : next.side.idx ≡ at.side.idx
+  pub i : next.i ≡ b.i
+  pub j : next.j ≡ b.j
 
 -- the same with the room that is left: at most one entry more is in a list
-pub record Settled (x y : lent.Arena) (t : Turn) (b : reference.Turn) : Type 0 where
-  pub turned : Turned x y t b
+pub record Settled (x y : lent.Arena) (at next : Turn) (b : reference.Turn) : Type 0 where
+  pub turned : Turned x y at next b
   pub space : (N p k : ℕ) → Space N p (suc k) (arena_of x) → Space N p k b.arena
 
 -- a whole turn: at most one result more, and one entry
-pub record Whole (x y : lent.Arena) (t : Turn) (b : reference.Turn) : Type 0 where
-  pub turned : Turned x y t b
+pub record Whole (x y : lent.Arena) (at next : Turn) (b : reference.Turn) : Type 0 where
+  pub turned : Turned x y at next b
   pub space : (N k : ℕ) → Spare N (suc k) (arena_of x) → Spare N k b.arena
 
 -- a node that enters a list, out of another
@@ -95,24 +98,19 @@ pub record Groups (x y : lent.Arena) (b : Arena) : Type 0 where
 unfoldable pub regrouped : ℕ → ℕ → Arena → reference.Four → Bool → Arena
 regrouped idx n a f is_rejoining = if is_rejoining then joined idx n a f else split idx n a f
 
--- the two rings of side idx may be split or rejoined at f
-pub record Rejoining (m : lent.Arena) (idx i j root1 root2 : ℕ) (f : Four) : Type 0 where
+-- the rings of the two entries at a turn's place may be split or rejoined at f
+pub record Rejoining (m : lent.Arena) (at : Turn) (root1 root2 : ℕ) (f : Four) : Type 0 where
   pub spare : Spare m.sizes.slots 1 (arena_of m)
-  pub entries : Entries m idx i j
+  pub entries : Entries m at
+  pub side : f.side.idx ≡ at.side.idx
   pub root1_in : root1 < m.sizes.nodes
   pub root2_in : root2 < m.sizes.nodes
   pub four_in : FourIn m.sizes.nodes f
 
--- a turn of side idx may be taken: one result and one entry more have room
-pub record Turning (m : lent.Arena) (idx : ℕ) : Type 0 where
-  pub spare : Spare m.sizes.slots 1 (arena_of m)
-  pub side_in : idx < 4
-
--- the turns at entry i of the clockwise list may be taken: it is live
-pub record Idling (m : lent.Arena) (idx i : ℕ) : Type 0 where
-  pub turning : Turning m idx
-  pub i_in : i < get_or m.sizes.lens (idx * 2) 0
-  pub live : is_live (arena_of m) (get_or (edge_list (arena_of m) (idx * 2)) i none) ≡ true
+-- the idle turns at a clockwise entry may be taken: it is live
+pub record Idling (m : lent.Arena) (at : Turn) : Type 0 where
+  pub i_in : at.i < get_or m.sizes.lens (at.side.idx * 2) 0
+  pub live : is_live (arena_of m) (get_or (edge_list (arena_of m) (at.side.idx * 2)) at.i none) ≡ true
 
 -- What idle turns leave, which change no list: the definition's turns from i' and j' on, with left' left of an allowance A, are those
 -- from i and j on, with `left` left.
@@ -120,22 +118,22 @@ pub record Idled (pts : List Point64) (idx : ℕ) (a : Arena) (left i j left' i'
   pub same : (A : ℕ) → left ≤ A → turns_from pts idx left' (A - left') (turn a i' j') ≡ turns_from pts idx left (A - left) (turn a i j)
   pub fewer : left' ≤ left
 
--- the turns of side idx may be taken, as many as are left of the allowance
-pub record Allowing (m : lent.Arena) (idx A turns : ℕ) : Type 0 where
-  pub spare : Spare m.sizes.slots (A - turns) (arena_of m)
-  pub side_in : idx < 4
-  pub turns_in : turns ≤ A
+-- the same of the turns that are left at `at`
+pub record Idles (m : lent.Arena) (at : Turn) (left : ℕ) (r : Progress) : Type 0 where
+  pub side : r.at.side.idx ≡ at.side.idx
+  pub idled : Idled (pts_of m) at.side.idx (arena_of m) left at.i at.j r.left r.at.i r.at.j
 
--- what `tidy_edges` answers: refusal 10, or the arena and the turns taken
-abbrev pub answer : lent.Arena → Result ℕ Refusal → Try (Arena × ℕ)
-answer m (Ok turns) = ok (arena_of m, turns)
-answer m (Err why) = refuse (number why)
+-- what `tidy_edges` answers: refusal 10, or the arena and the turns taken of an allowance A, by how many are left
+abbrev pub answer : lent.Arena → ℕ → Result ℕ Refusal → Try (Arena × ℕ)
+answer m A (Ok left) = ok (arena_of m, A - left)
+answer m A (Err why) = refuse (number why)
 
-pub record TidiedAs (x y : lent.Arena) (A : ℕ) (r : Result ℕ Refusal) (b : Try (Arena × ℕ)) : Type 0 where
-  pub is : answer y r ≡ b
+-- where `allowed` turns are left of the allowance A, the answer is the definition's b, and what is left has room
+pub record TidiedAs (x y : lent.Arena) (allowed A : ℕ) (r : Result ℕ Refusal) (b : Try (Arena × ℕ)) : Type 0 where
+  pub is : answer y A r ≡ b
   pub becomes : Becomes x y (arena_of y)
-  pub spare : IfOk r (λ turns. Spare x.sizes.slots (A - turns) (arena_of y))
-  pub turns_in : IfOk r (λ turns. turns ≤ A)
+  pub spare : IfOk r (λ left. Spare x.sizes.slots left (arena_of y))
+  pub fewer : IfOk r (λ left. left ≤ allowed)
 
 -- the four sides in their order, as `execute` has them
 unfoldable pub tidied_all : List Point64 → ℕ → Arena → Try (Arena × ℕ)

@@ -1,18 +1,17 @@
 -- The walk in the lent lists: which part of them is the walk, what every step keeps, and what a step answers.
-use Rattle.std.specs.Prelude.{◌≡◌, List, map, ℕ, zero, suc, ◌+◌, ◌*◌, ◌/◌, ◌<◌, ◌≤◌, length, take, ℤ, Bool, true, false, if◌then◌else◌, Result, Ok, Err}
+use Rattle.std.specs.Prelude.{◌≡◌, List, map, ℕ, zero, suc, ◌+◌, ◌*◌, ◌/◌, ◌<◌, ◌≤◌, length, take, ℤ, Bool, true, false, if◌then◌else◌, Option, None}
 use Rattle.plane.specs.declared.point.Point64.{Point64}
 use Rattle.plane.specs.declared.location.Location.{Location}
 use Rattle.plane.specs.declared.location.Location.TheVariants.{Left, Top, Right, Bottom, Inside}
 use Rattle.plane.specs.declared.rect.Rect64.{Rect64}
-use Rattle.plane.specs.Basics.{Try, refuse, ok}
 use Rattle.plane.specs.Limit.{all_in_limit, rect_in_limit}
 use Rattle.plane.specs.Locations.{get_adjacent_location}
 use Rattle.plane.specs.Points.{pt_at, points_of}
-use Rattle.plane.specs.Rectangle.{is_empty, corner}
+use Rattle.plane.specs.Rectangle.{is_empty, corner, get_location}
+use Rattle.plane.specs.Intersection.{found_at}
+use Rattle.plane.specs.declared.crossing.SidePoint.{SidePoint}
 use Rattle.reference.specs.Walk.{Walk}
 use Rattle.rectclip.specs.declared.walk.WalkState.{WalkState}
-use Rattle.entry.specs.declared.answer.Refusal.{Refusal}
-use Rattle.entry.specs.Answers.{number}
 use Rattle.rectclip.specs.Bounds.{Reached}
 use Rattle.rectclip.specs.Memory.{at, Room, column}
 
@@ -32,11 +31,6 @@ walk_of store work s = record {
   start_locs = map location (column 5 s.start_locs work);
 }
 
--- what a step answers: the walk as the lists have it, or a refusal
-abbrev pub stepped : Result WalkState Refusal → List ℤ → List ℕ → Try Walk
-stepped (Ok s) store work = ok (walk_of store work s)
-stepped (Err why) store work = refuse (number why)
-
 -- the walk has its place in the lists, with a slot for each of W points and one more
 pub record Fits (store : List ℤ) (work : List ℕ) (s : WalkState) : Type 0 where
   pub room : Room (length store / 2 + 1) work
@@ -54,11 +48,10 @@ pub record Sheet (rect : Rect64) (path : List ℤ) : Type 0 where
   pub frame : rect_in_limit rect ≡ true
   pub points : all_in_limit path ≡ true
 
+-- a point off the edges, and its location
+abbrev pub off_edges : Rect64 → Point64 → Option SidePoint
+off_edges rect p = let s = get_location rect p in if s.off then found_at p s.loc else None
+
 -- the corner that `add_corner_loc` adds
 abbrev pub turned : Rect64 → Location → Bool → Point64
 turned rect loc is_clockwise = corner rect (if is_clockwise then loc else get_adjacent_location loc is_clockwise)
-
--- what a step of the walk ensures of the lists as it leaves them: its answer is the definition's, and the walk fits again
-pub record Stepped (goal : Try Walk) (store : List ℤ) (work : List ℕ) (r : Result WalkState Refusal) : Type 0 where
-  pub answer : stepped r store work ≡ goal
-  pub fits : (s : WalkState) → r ≡ Ok s → Fits store work s

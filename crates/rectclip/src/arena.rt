@@ -1,12 +1,13 @@
 // The arena in the lent lists: a node's point in the store; its links, owner and edge, the results and the edge lists in the work list.
-// These methods are the only functions of the polygon clipper that see the work list's fields.
+// Once ring.rt has put down the ring, the polygon clipper reads and writes the lists' fields by these methods alone.
 ghost use Rattle.std.specs.Prelude.{◌≡◌, ◌≢◌, ◌<◌, IfSome, eqb, get_or};
 ghost use Rattle.plane.specs.Basics.{none, push};
 ghost use Rattle.reference.specs.Arena.{pt_of, next_of, prev_of, owner_of, edge_of, result_of, edge_list, set_next, set_prev, set_owner, set_edge, set_result, set_results, set_entry, set_edge_list, set_new_owner};
-ghost use Rattle.rectclip.specs.Arenas.{Holds, mark, longer_list, one_result_more};
+ghost use Rattle.rectclip.specs.Arenas.{Holds, mark, list_mark, longer_list, one_result_more};
 ghost use Rattle.rectclip.specs.Stored.{Drawn};
 
-use crate::lists::{EDGE, EDGES, NEXT, NONE, OWNER, PREV, RESULT, get, point_at, store};
+use crate::lists::{EDGE, EDGES, NEXT, NONE, OWNER, PREV, RESULT, get, point_at, put};
+use crate::side::EdgeList;
 use plane::point::Point64;
 
 // How many slots there are, how many of them are nodes and results, and how long each edge list is.
@@ -41,6 +42,16 @@ fn marked(v: Option<usize>) -> usize
     ensures { result ≡ mark v }
 {
     v.unwrap_or(NONE)
+}
+
+// The same for an edge list.
+fn marked_list(v: Option<EdgeList>) -> usize
+    ensures { result ≡ list_mark v }
+{
+    match v {
+        None => NONE,
+        Some(list) => list.idx,
+    }
 }
 
 // A node's four fields have a reader and a setter each, as the definition has: one over the field's number would need the field's bound
@@ -84,12 +95,12 @@ impl<'a> Arena<'a> {
     }
 
     // `arena[i].edge_idx`
-    pub(crate) fn edge_of(&self, i: usize) -> Option<usize>
+    pub(crate) fn edge_of(&self, i: usize) -> Option<EdgeList>
         requires { i < self.now.sizes.nodes }
-        ensures is { mark result ≡ edge_of (arena_of self.now) i }
-        ensures within { IfSome result (λ e. e < 8) }
+        ensures { list_mark result ≡ edge_of (arena_of self.now) i }
     {
-        unmarked(get(self.work, EDGE, i))
+        let idx = unmarked(get(self.work, EDGE, i))?;
+        Some(EdgeList { idx })
     }
 
     // `results[i]`
@@ -101,21 +112,21 @@ impl<'a> Arena<'a> {
         unmarked(get(self.work, RESULT, i))
     }
 
-    // `edges[e][j]`
-    pub(crate) fn entry_of(&self, e: usize, j: usize) -> Option<usize>
-        requires { (e < 8) × (j < get_or self.now.sizes.lens e 0) }
-        ensures is { mark result ≡ get_or (edge_list (arena_of self.now) e) j none }
+    // `edges[list][j]`
+    pub(crate) fn entry_of(&self, list: EdgeList, j: usize) -> Option<usize>
+        requires { j < get_or self.now.sizes.lens list.idx 0 }
+        ensures is { mark result ≡ get_or (edge_list (arena_of self.now) list.idx) j none }
         ensures within { IfSome result (λ op. op < self.now.sizes.nodes) }
     {
-        unmarked(get(self.work, EDGES + e, j))
+        unmarked(get(self.work, EDGES + list.idx, j))
     }
 
-    // `edges[e][j] == Some(op)`, in one comparison: an edge list is looked through for each node that leaves it
-    pub(crate) fn is_entry(&self, e: usize, j: usize, op: usize) -> bool
-        requires { (e < 8) × (j < get_or self.now.sizes.lens e 0) }
-        ensures { result ≡ eqb (get_or (edge_list (arena_of self.now) e) j none) op }
+    // `edges[list][j] == Some(op)`, in one comparison: an edge list is looked through for each node that leaves it
+    pub(crate) fn is_entry(&self, list: EdgeList, j: usize, op: usize) -> bool
+        requires { j < get_or self.now.sizes.lens list.idx 0 }
+        ensures { result ≡ eqb (get_or (edge_list (arena_of self.now) list.idx) j none) op }
     {
-        get(self.work, EDGES + e, j) == op
+        get(self.work, EDGES + list.idx, j) == op
     }
 
     // `arena[i].next = v`
@@ -123,7 +134,7 @@ impl<'a> Arena<'a> {
         requires { (i < self.old.sizes.nodes) × (v < self.old.sizes.nodes) }
         ensures { Leaves self.old self.new (set_next (arena_of self.old) i v) }
     {
-        store(self.work, NEXT, i, v);
+        put(self.work, NEXT, i, v);
     }
 
     // `arena[i].prev = v`
@@ -131,7 +142,7 @@ impl<'a> Arena<'a> {
         requires { (i < self.old.sizes.nodes) × (v < self.old.sizes.nodes) }
         ensures { Leaves self.old self.new (set_prev (arena_of self.old) i v) }
     {
-        store(self.work, PREV, i, v);
+        put(self.work, PREV, i, v);
     }
 
     // `arena[i].owner_idx = v`
@@ -139,7 +150,7 @@ impl<'a> Arena<'a> {
         requires { (i < self.old.sizes.nodes) × (v < self.old.sizes.results) }
         ensures { Leaves self.old self.new (set_owner (arena_of self.old) i v) }
     {
-        store(self.work, OWNER, i, v);
+        put(self.work, OWNER, i, v);
     }
 
     // Each node of the ring of `op` has the owner `owner` from now on.
@@ -150,23 +161,23 @@ impl<'a> Arena<'a> {
     {
         let nodes = self.sizes.nodes;
         let work = &mut *self.work;
-        store(work, OWNER, op, owner);
+        put(work, OWNER, op, owner);
         let mut op2 = get(work, NEXT, op);
         for _pass in (0..nodes).rev() {
             if op2 == op {
                 return;
             }
-            store(work, OWNER, op2, owner);
+            put(work, OWNER, op2, owner);
             op2 = get(work, NEXT, op2);
         }
     }
 
     // `arena[i].edge_idx = v`
-    pub(crate) fn set_edge(&mut self, i: usize, v: Option<usize>)
-        requires { (i < self.old.sizes.nodes) × IfSome v (λ e. e < 8) }
-        ensures { Leaves self.old self.new (set_edge (arena_of self.old) i (mark v)) }
+    pub(crate) fn set_edge(&mut self, i: usize, v: Option<EdgeList>)
+        requires { i < self.old.sizes.nodes }
+        ensures { Leaves self.old self.new (set_edge (arena_of self.old) i (list_mark v)) }
     {
-        store(self.work, EDGE, i, marked(v));
+        put(self.work, EDGE, i, marked_list(v));
     }
 
     // `results[i] = v`
@@ -174,15 +185,15 @@ impl<'a> Arena<'a> {
         requires { (i < self.old.sizes.results) × IfSome v (λ op. op < self.old.sizes.nodes) }
         ensures { Leaves self.old self.new (set_result (arena_of self.old) i (mark v)) }
     {
-        store(self.work, RESULT, i, marked(v));
+        put(self.work, RESULT, i, marked(v));
     }
 
-    // `edges[e][i] = v`
-    pub(crate) fn set_entry(&mut self, e: usize, i: usize, v: Option<usize>)
-        requires { (e < 8) × (i < get_or self.old.sizes.lens e 0) × IfSome v (λ op. op < self.old.sizes.nodes) }
-        ensures { Leaves self.old self.new (set_entry (arena_of self.old) e i (mark v)) }
+    // `edges[list][i] = v`
+    pub(crate) fn set_entry(&mut self, list: EdgeList, i: usize, v: Option<usize>)
+        requires { (i < get_or self.old.sizes.lens list.idx 0) × IfSome v (λ op. op < self.old.sizes.nodes) }
+        ensures { Leaves self.old self.new (set_entry (arena_of self.old) list.idx i (mark v)) }
     {
-        store(self.work, EDGES + e, i, marked(v));
+        put(self.work, EDGES + list.idx, i, marked(v));
     }
 
     // `results.push(v)`
@@ -191,17 +202,17 @@ impl<'a> Arena<'a> {
         ensures { Grows self.old self.new (one_result_more self.old.sizes) (set_results (arena_of self.old) (push (arena_of self.old).results v)) }
     {
         let n = self.sizes.results;
-        store(self.work, RESULT, n, v);
+        put(self.work, RESULT, n, v);
         self.sizes.results = n + 1;
     }
 
-    // `edges[e].push(v)`
-    pub(crate) fn push_entry(&mut self, e: usize, v: usize)
-        requires { (e < 8) × (get_or self.old.sizes.lens e 0 < self.old.sizes.slots) × (v < self.old.sizes.nodes) }
-        ensures { Grows self.old self.new (longer_list self.old.sizes e) (set_edge_list (arena_of self.old) e (push (edge_list (arena_of self.old) e) v)) }
+    // `edges[list].push(v)`
+    pub(crate) fn push_entry(&mut self, list: EdgeList, v: usize)
+        requires { (get_or self.old.sizes.lens list.idx 0 < self.old.sizes.slots) × (v < self.old.sizes.nodes) }
+        ensures { Grows self.old self.new (longer_list self.old.sizes list.idx) (set_edge_list (arena_of self.old) list.idx (push (edge_list (arena_of self.old) list.idx) v)) }
     {
-        let n = self.sizes.lens[e];
-        store(self.work, EDGES + e, n, v);
-        self.sizes.lens[e] = n + 1;
+        let n = self.sizes.lens[list.idx];
+        put(self.work, EDGES + list.idx, n, v);
+        self.sizes.lens[list.idx] = n + 1;
     }
 }

@@ -6,7 +6,7 @@ use crate::rect_clip::RectClip64;
 use entry::answer::Answer;
 use plane::rect::Rect64;
 
-// One path, closed or open; an open path takes no turns.
+// One path, closed or open; an open path takes no turns. The four lists are lent one by one, as the exported functions have them.
 pub fn clip(
     closed: bool,
     allowance: u32,

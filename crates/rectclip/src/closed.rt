@@ -1,18 +1,16 @@
 // The `while` of `RectClip64::execute_internal`: one pass by its cases, and the passes.
 ghost use Rattle.std.specs.Prelude.{◌≡◌, ◌+◌, ◌/◌, ◌<◌, length};
-ghost use Rattle.plane.specs.Points.{points_of};
-ghost use Rattle.plane.specs.Rectangle.{mid_point};
-ghost use Rattle.plane.specs.Signs.{is_clockwise_dir};
 ghost use Rattle.reference.specs.Walk.{remain_outside, enter, pass_to, pass_through, leave, cross_boundary, pt_before, pass_from, passes};
-ghost use Rattle.rectclip.specs.Closing.{moves_on, first_of, enter_corners, pass_corner, pass_start, pass_in, pass_out, one_pass, state_of, pass_of, Advances};
+ghost use Rattle.rectclip.specs.Closing.{way_to, moves_on, first_of, enter_corners, pass_corner, pass_start, pass_in, pass_out, one_pass, state_of, pass_of, Advances};
 ghost use Rattle.rectclip.specs.Steps.{walk, full, points, next_of, Steps};
 
 use crate::boundary::BoundaryPoint;
+use crate::corners::Way;
 use crate::lists::point_at;
 use crate::next::Place;
 use crate::pass::{ClosedState, Pass};
-use crate::search::Search;
-use crate::segment::{Segment, is_clockwise_dir};
+use crate::polygon::before_idx;
+use crate::segment::Segment;
 use crate::walk::Walker;
 use entry::answer::Refusal;
 use plane::location::Location;
@@ -35,23 +33,29 @@ fn first_of(first_cross: Location, loc: Location) -> Location
     first_cross
 }
 
-// The point before point `i`, round the closed path.
-fn point_before(path: &[i64], i: usize) -> Point64
-    requires { i < length path.now / 2 }
-    ensures { result ≡ pt_before (points_of path.now) i }
-{
-    if i > 0 {
-        return point_at(path, i - 1);
-    }
-    point_at(path, path.len() / 2 - 1)
-}
-
 impl Walker<'_> {
-    // Whether a pass that comes to side `curr` goes clockwise round the rectangle.
-    fn goes_clockwise(&self, c: Pass, curr: Location) -> bool
-        ensures { result ≡ is_clockwise_dir c.prev curr c.prev_pt c.pt (mid_point self.now.rect) }
+    // The point before point `i`, round the closed path.
+    #[tactic(auto, using(crate::proofs::ClosedPass::before_is))]
+    fn point_before(&self, i: usize) -> Point64
+        requires { i < length self.now.path.now / 2 }
+        ensures { result ≡ pt_before (points self.now) i }
     {
-        is_clockwise_dir(c.prev, curr, c.prev_pt, c.pt, self.rect.mid_point())
+        point_at(self.path, before_idx(i, self.path.len() / 2))
+    }
+
+    // The way of a pass that comes to side `to`.
+    #[tactic(auto, using(crate::proofs::ClosedPass::mid_limited))]
+    fn way_to(&self, c: Pass, to: Location) -> Way
+        ensures { result ≡ way_to self.now.rect c to }
+    {
+        let is_clockwise = c
+            .segment
+            .is_clockwise_dir(c.prev, to, self.rect.mid_point());
+        Way {
+            from: c.prev,
+            to,
+            is_clockwise,
+        }
     }
 
     // "remaining outside": no crossing is found.
@@ -65,22 +69,21 @@ impl Walker<'_> {
             first_cross: c.first_cross,
         };
         if c.crossing_prev.is_inside() {
-            let is_clockwise = self.goes_clockwise(c, c.loc);
-            self.push_start_locs(c.prev, c.loc, is_clockwise)?;
+            self.push_start_locs(self.way_to(c, c.loc))?;
             return Ok(ClosedState {
                 crossing_loc: c.crossing_prev,
                 ..next
             });
         }
         if moves_on(c.prev, c.loc) {
-            let is_clockwise = self.goes_clockwise(c, c.loc);
-            self.add_corners(c.prev, c.loc, is_clockwise)?;
+            self.add_corners(self.way_to(c, c.loc))?;
             return Ok(next);
         }
         Ok(next)
     }
 
     // Before the point of entry: a start side at the first crossing, else the corners on the way.
+    #[tactic(auto, using(crate::proofs::ClosedPass::corners_first, crate::proofs::ClosedPass::corners_same, crate::proofs::ClosedPass::corners_other, plane::proofs::Equality::same_location_is))]
     fn enter_corners(&mut self, c: Pass, crossing_loc: Location) -> Result<(), Refusal>
         ensures { Steps (enter_corners (full self.old) self.old.rect (pass_of self.old c) crossing_loc) self.old self.new result }
     {
@@ -90,8 +93,7 @@ impl Walker<'_> {
         if c.prev == crossing_loc {
             return Ok(());
         }
-        let is_clockwise = self.goes_clockwise(c, crossing_loc);
-        self.add_corners(c.prev, crossing_loc, is_clockwise)
+        self.add_corners(self.way_to(c, crossing_loc))
     }
 
     // "path must be entering rect", at the crossing.
@@ -109,6 +111,7 @@ impl Walker<'_> {
     }
 
     // The corner between the side crossed before and the one that a passing segment comes in at.
+    #[tactic(auto, using(crate::proofs::ClosedPass::corner_turned, crate::proofs::ClosedPass::corner_kept))]
     fn pass_corner(&mut self, crossing_prev: Location, loc: Location) -> Result<(), Refusal>
         ensures { Steps (pass_corner (full self.old) self.old.rect (walk self.old) crossing_prev loc) self.old self.new result }
     {
@@ -119,6 +122,7 @@ impl Walker<'_> {
     }
 
     // A start side, at the first crossing.
+    #[tactic(auto, using(crate::proofs::ClosedPass::start_pushed, crate::proofs::ClosedPass::start_kept))]
     fn pass_start(&mut self, first_cross: Location, prev: Location) -> Result<(), Refusal>
         ensures { Steps (pass_start (full self.old) (walk self.old) first_cross prev) self.old self.new result }
     {
@@ -137,22 +141,21 @@ impl Walker<'_> {
         self.add(second.point, false)
     }
 
-    // It goes out at the crossing, on the side that the walk is at; where that is `ip2`, the walk turns the corner to the side that the point is on.
+    // It goes out at the crossing; where that is the point that it came in at, the walk turns the corner to the side that the path's point is on.
     fn pass_out(
         &mut self,
-        at: Place,
-        pt: Point64,
+        c: Pass,
         crossing: BoundaryPoint,
-        ip2: Point64,
-        first_cross: Location,
+        second: BoundaryPoint,
     ) -> Result<ClosedState, Refusal>
-        ensures { Advances (pass_out (full self.old) self.old.rect (next_of self.old at) pt crossing.point ip2 first_cross) self.old self.new result }
+        ensures { Advances (pass_out (full self.old) self.old.rect (pass_of self.old c) crossing.point crossing.side second.point second.side) self.old self.new result }
     {
-        if crossing.point == ip2 {
-            let on = self.rect.get_location(pt).loc;
-            self.add_corner_prev_curr(at.loc, on)?;
+        let first_cross = first_of(c.first_cross, second.side);
+        if crossing.point == second.point {
+            let on = self.rect.get_location(c.segment.to).loc;
+            self.add_corner_prev_curr(crossing.side, on)?;
             return Ok(ClosedState {
-                i: at.i,
+                i: c.i,
                 loc: on,
                 crossing_loc: on,
                 first_cross,
@@ -160,9 +163,9 @@ impl Walker<'_> {
         }
         self.add(crossing.point, false)?;
         Ok(ClosedState {
-            i: at.i,
-            loc: at.loc,
-            crossing_loc: at.loc,
+            i: c.i,
+            loc: crossing.side,
+            crossing_loc: crossing.side,
             first_cross,
         })
     }
@@ -177,26 +180,14 @@ impl Walker<'_> {
         ensures { Advances (pass_to (full self.old) self.old.rect (pass_of self.old c) crossing.point crossing.side second.point second.side) self.old self.new result }
     {
         self.pass_in(c, second)?;
-        let at = Place {
-            loc: crossing.side,
-            i: c.i,
-        };
-        let first_cross = first_of(c.first_cross, second.side);
-        self.pass_out(at, c.pt, crossing, second.point, first_cross)
+        self.pass_out(c, crossing, second)
     }
 
     // "passing right through rect", out at the crossing: in where the second search finds the segment.
     fn pass_through(&mut self, c: Pass, crossing: BoundaryPoint) -> Result<ClosedState, Refusal>
         ensures { Advances (pass_through (full self.old) self.old.rect (pass_of self.old c) crossing.point crossing.side) self.old self.new result }
     {
-        let search = Search {
-            rect: self.rect,
-            segment: Segment {
-                from: c.prev_pt,
-                to: c.pt,
-            },
-        };
-        let second = search.second_search(c.prev, crossing);
+        let second = self.search(c.segment).second_search(c.prev, crossing);
         self.pass_to(c, crossing, second)
     }
 
@@ -214,6 +205,7 @@ impl Walker<'_> {
     }
 
     // "we must be crossing the rect boundary to get here".
+    #[tactic(auto, using(crate::proofs::ClosedPass::crossed_in, crate::proofs::ClosedPass::crossed_out, crate::proofs::ClosedPass::crossed_over))]
     fn cross_boundary(&mut self, c: Pass, crossing: BoundaryPoint) -> Result<ClosedState, Refusal>
         ensures { Advances (cross_boundary (full self.old) self.old.rect (pass_of self.old c) crossing.point crossing.side) self.old self.new result }
     {
@@ -237,25 +229,19 @@ impl Walker<'_> {
                 ..s
             });
         }
-        let pt = point_at(self.path, at.i);
-        let prev_pt = point_before(self.path, at.i);
+        let segment = Segment {
+            from: self.point_before(at.i),
+            to: point_at(self.path, at.i),
+        };
         let c = Pass {
             i: at.i,
             prev: s.loc,
             loc: at.loc,
             crossing_prev: s.crossing_loc,
             first_cross: s.first_cross,
-            prev_pt,
-            pt,
+            segment,
         };
-        let search = Search {
-            rect: self.rect,
-            segment: Segment {
-                from: pt,
-                to: prev_pt,
-            },
-        };
-        match search.get_intersection(at.loc) {
+        match self.search(segment.reversed()).get_intersection(at.loc) {
             None => self.remain_outside(c),
             Some(crossing) => self.cross_boundary(c, crossing),
         }

@@ -10,6 +10,14 @@ use crate::walk::Walker;
 use entry::answer::Refusal;
 use plane::location::Location;
 
+// A way along the sides of the rectangle, from one side to another; where the two are the same, all the way round.
+#[derive(Clone, Copy)]
+pub(crate) struct Way {
+    pub from: Location,
+    pub to: Location,
+    pub is_clockwise: bool,
+}
+
 impl Walker<'_> {
     // The corner between two neighbouring sides.
     pub(crate) fn add_corner_prev_curr(
@@ -40,56 +48,37 @@ impl Walker<'_> {
         self.add(self.rect.corner(next), false)
     }
 
-    // `step` at each side from `from` on, up to `loc`.
+    // `step` at each side of the way but its last.
     fn for_each_side<F: Fn(&mut Walker, Location) -> Result<(), Refusal>>(
         &mut self,
-        from: Location,
-        loc: Location,
-        is_clockwise: bool,
+        way: Way,
         step: F,
     ) -> Result<(), Refusal>
         requires { F.IsAlwaysCallable step }
-        ensures { (one : Walk → Location → Try Walk) (run : ℕ → Walk → Location → Try Walk) → Rounds loc is_clockwise one run → CallsAre self.old one (F.post step) → Steps (run 4 (walk self.old) from) self.old self.new result }
+        ensures { (one : Walk → Location → Try Walk) (run : ℕ → Walk → Location → Try Walk) → Rounds way.to way.is_clockwise one run → CallsAre self.old one (F.post step) → Steps (run 4 (walk self.old) way.from) self.old self.new result }
     {
-        let mut p = from;
+        let mut p = way.from;
         for _ in 0..4usize {
             step(self, p)?;
-            p = p.get_adjacent_location(is_clockwise);
-            if p == loc {
+            p = p.get_adjacent_location(way.is_clockwise);
+            if p == way.to {
                 return Ok(());
             }
         }
         Ok(())
     }
 
-    // The corners from side `from` to side `loc`.
-    pub(crate) fn add_corners(
-        &mut self,
-        from: Location,
-        loc: Location,
-        is_clockwise: bool,
-    ) -> Result<(), Refusal>
-        ensures { Steps (add_corners (full self.old) self.old.rect 4 (walk self.old) from loc is_clockwise) self.old self.new result }
+    // The corners on the way.
+    pub(crate) fn add_corners(&mut self, way: Way) -> Result<(), Refusal>
+        ensures { Steps (add_corners (full self.old) self.old.rect 4 (walk self.old) way.from way.to way.is_clockwise) self.old self.new result }
     {
-        self.for_each_side(from, loc, is_clockwise, |walker, p| {
-            walker.add_corner_loc(p, is_clockwise)
-        })
+        self.for_each_side(way, |walker, p| walker.add_corner_loc(p, way.is_clockwise))
     }
 
-    // The sides from `from` on, up to `loc`, are start sides.
-    pub(crate) fn push_start_locs(
-        &mut self,
-        from: Location,
-        loc: Location,
-        is_clockwise: bool,
-    ) -> Result<(), Refusal>
-        ensures { Steps (push_start_locs (full self.old) self.old.rect 4 (walk self.old) from loc is_clockwise) self.old self.new result }
+    // The sides of the way but its last are start sides.
+    pub(crate) fn push_start_locs(&mut self, way: Way) -> Result<(), Refusal>
+        ensures { Steps (push_start_locs (full self.old) self.old.rect 4 (walk self.old) way.from way.to way.is_clockwise) self.old self.new result }
     {
-        self.for_each_side(
-            from,
-            loc,
-            is_clockwise,
-            |walker, p| walker.push_start_loc(p),
-        )
+        self.for_each_side(way, |walker, p| walker.push_start_loc(p))
     }
 }

@@ -1,112 +1,94 @@
 // Idle turns of `tidy_edges`: those that change no list, up to two edges that overlap or a clockwise entry that is not live.
-ghost use Rattle.std.specs.Prelude.{◌≡◌, ◌<◌, IfSome, get_or};
+ghost use Rattle.std.specs.Prelude.{◌≡◌, ◌<◌, IfSome};
 ghost use Rattle.rectclip.specs.Arenas.{mark};
-ghost use Rattle.rectclip.specs.Changes.{arena_of, pts_of};
-ghost use Rattle.rectclip.specs.Turns.{is_live, Sought, Turning, Idling, Idled};
+ghost use Rattle.rectclip.specs.Changes.{arena_of};
+ghost use Rattle.rectclip.specs.Turns.{is_live, Sought, Idling, Idles};
 
 use crate::arena::Arena;
-use crate::regroup::{four_of, overlap};
-use crate::rings::is_stub;
+use crate::settle::Turn;
+use crate::side::EdgeList;
 
-// How far the counter-clockwise list of the side is worked off, and how many turns are left.
+// How far the lists of a side are worked off, and how many turns are left.
 #[derive(Clone, Copy)]
-pub(crate) struct Along {
-    pub j: usize,
+pub(crate) struct Progress {
+    pub at: Turn,
     pub left: usize,
 }
 
-// How far both lists of the side are worked off, and how many turns are left.
-#[derive(Clone, Copy)]
-pub(crate) struct Place {
-    pub i: usize,
-    pub j: usize,
-    pub left: usize,
-}
-
-// Whether an entry is a node whose ring is no stub.
-pub(crate) fn is_live(a: &Arena, x: Option<usize>) -> bool
-    requires { IfSome x (λ op. op < a.now.sizes.nodes) }
-    ensures { result ≡ is_live (arena_of a.now) (mark x) }
-{
-    match x {
-        None => false,
-        Some(op) => !is_stub(a, op),
-    }
-}
-
-// The inner `while`: the first position from `from` on of list `e` whose entry is live.
-pub(crate) fn seek(a: &Arena, e: usize, from: usize) -> usize
-    requires { e < 8 }
-    ensures { Sought (arena_of a.now) e from result }
-{
-    let len = a.sizes.lens[e];
-    for j in from..len {
-        if is_live(a, a.entry_of(e, j)) {
-            return j;
+impl Arena<'_> {
+    // Whether an entry is a node whose ring is no stub.
+    pub(crate) fn is_live(&self, x: Option<usize>) -> bool
+        requires { IfSome x (λ op. op < self.now.sizes.nodes) }
+        ensures { result ≡ is_live (arena_of self.now) (mark x) }
+    {
+        // no `is_some_and`: of its closure, which holds the arena, the search does not find that it answers `!is_stub`
+        match x {
+            None => false,
+            Some(op) => !self.is_stub(op),
         }
     }
-    from.max(len)
-}
 
-// The idle turns at the live clockwise entry `i`, from `from` on of the other list.
-pub(crate) fn idle_along(a: &Arena, idx: usize, i: usize, from: usize, allowed: usize) -> Along
-    requires { Idling a.now idx i }
-    ensures { Idled (pts_of a.now) idx (arena_of a.now) allowed i from result.left i result.j }
-{
-    let ccw = idx * 2 + 1;
-    let root1 = a.entry_of(idx * 2, i).unwrap();
-    let mut j = from;
-    for taken in 0..allowed {
-        let left = allowed - taken;
-        j = seek(a, ccw, j);
-        if a.sizes.lens[ccw] <= j {
-            return Along { j, left };
+    // The inner `while`: the first position from `from` on of the list whose entry is live. A `for` with a return, like the scan of next.rt.
+    pub(crate) fn seek(&self, list: EdgeList, from: usize) -> usize
+        ensures { Sought (arena_of self.now) list.idx from result }
+    {
+        let len = self.sizes.lens[list.idx];
+        for j in from..len {
+            if self.is_live(self.entry_of(list, j)) {
+                return j;
+            }
         }
-        let root2 = a.entry_of(ccw, j).unwrap();
-        let f = four_of(a, idx, root1, root2);
-        if overlap(a, idx, f) {
-            return Along { j, left };
-        }
-        j += 1;
+        from.max(len)
     }
-    Along { j, left: 0 }
-}
 
-// The idle turns of the side from `first` on of the clockwise list and `second` on of the other, as many as are allowed.
-pub(crate) fn idle_turns(
-    a: &Arena,
-    idx: usize,
-    first: usize,
-    second: usize,
-    allowed: usize,
-) -> Place
-    requires { Turning a.now idx }
-    ensures { Idled (pts_of a.now) idx (arena_of a.now) allowed first second result.left result.i result.j }
-{
-    let cw = idx * 2;
-    let len = a.sizes.lens[cw];
-    let other = a.sizes.lens[cw + 1];
-    let mut j = second;
-    let mut left = allowed;
-    for i in first..len {
-        if !is_live(a, a.entry_of(cw, i)) {
-            return Place { i, j, left };
+    // The idle turns at the live clockwise entry of `at`, as many as are allowed.
+    pub(crate) fn idle_along(&self, mut at: Turn, allowed: usize) -> Progress
+        requires { Idling self.now at }
+        ensures turns { Idles self.now at allowed result }
+        ensures entry { result.at.i ≡ at.i }
+    {
+        let ccw = at.side.ccw();
+        let root1 = self.entry_of(at.side.cw(), at.i).unwrap();
+        for taken in 0..allowed {
+            let left = allowed - taken;
+            at.j = self.seek(ccw, at.j);
+            if self.sizes.lens[ccw.idx] <= at.j {
+                return Progress { at, left };
+            }
+            let root2 = self.entry_of(ccw, at.j).unwrap();
+            let f = self.four_of(at.side, root1, root2);
+            if self.overlap(f) {
+                return Progress { at, left };
+            }
+            at.j += 1;
         }
-        let at = idle_along(a, idx, i, j, left);
-        j = at.j;
-        left = at.left;
-        if j < other {
-            return Place { i, j, left };
-        }
-        if left == 0 {
-            return Place { i, j, left };
-        }
-        j = 0;
-        left -= 1;
+        Progress { at, left: 0 }
     }
-    Place {
-        i: first.max(len),
-        j,
-        left,
+
+    // The idle turns from `at` on, as many as are allowed.
+    pub(crate) fn idle_turns(&self, at: Turn, allowed: usize) -> Progress
+        ensures { Idles self.now at allowed result }
+    {
+        let cw = at.side.cw();
+        let other = self.sizes.lens[at.side.ccw().idx];
+        let mut progress = Progress { at, left: allowed };
+        for i in at.i..self.sizes.lens[cw.idx] {
+            if !self.is_live(self.entry_of(cw, i)) {
+                return progress;
+            }
+            progress = self.idle_along(progress.at, progress.left);
+            if progress.at.j < other || progress.left == 0 {
+                return progress;
+            }
+            progress = Progress {
+                at: Turn {
+                    i: progress.at.i + 1,
+                    j: 0,
+                    ..progress.at
+                },
+                left: progress.left - 1,
+            };
+        }
+        progress
     }
 }

@@ -4,6 +4,7 @@
 
 mod arena;
 mod boundary;
+mod call;
 pub mod clip;
 mod clipping;
 mod closed;
@@ -15,7 +16,9 @@ mod line_walk;
 pub mod lines;
 mod lists;
 mod next;
+mod nodes;
 mod outline;
+mod output;
 mod pass;
 mod paths;
 mod pieces;
@@ -27,6 +30,7 @@ mod rings;
 mod search;
 mod segment;
 mod settle;
+mod side;
 mod tidy;
 mod walk;
 mod walked;

@@ -1,6 +1,7 @@
-// The lent lists. The store holds points, x then y; the work list holds slots of sixteen fields.
-// These leaves are the only places with offsets and casts.
-ghost use Rattle.std.specs.Prelude.{◌≡◌, ◌+◌, ◌*◌, ◌<◌, length, replicate, pos};
+// The lent lists: fixed memory, lent by the caller, since there is no heap. So nodes are indices, and sizes stand beside the lists (`Sizes`, `WalkState`).
+// The store holds points, x then y; the work list holds slots of sixteen fields. They are read and written here, but that next.rt reads one
+// coordinate of a point, pieces.rt and output.rt take a path whole, and call.rt clears both lists.
+ghost use Rattle.std.specs.Prelude.{◌≡◌, ◌+◌, ◌*◌, ◌<◌, length};
 ghost use Rattle.plane.specs.Points.{pt_at, points_of};
 ghost use Rattle.rectclip.specs.Memory.{at, put, put_point};
 
@@ -9,7 +10,7 @@ use plane::point::Point64;
 // The mark outside every index: the Rust's `None` and `usize::MAX`.
 pub(crate) const NONE: usize = 4294967295;
 
-// The fields of a slot: a node's links, owner and edge; a result; a start side; from EDGES on, the eight edge lists.
+// The fields of a slot, by their offsets in it: a node's links, owner and edge; a result; a start side; from EDGES on, the eight edge lists.
 pub(crate) const NEXT: usize = 0;
 
 pub(crate) const PREV: usize = 1;
@@ -33,7 +34,7 @@ pub(crate) fn get(work: &[u32], k: usize, i: usize) -> usize
 }
 
 // Field `k` of slot `i` is `v` from now on.
-pub(crate) fn store(work: &mut [u32], k: usize, i: usize, v: usize)
+pub(crate) fn put(work: &mut [u32], k: usize, i: usize, v: usize)
     requires { (16 * i + k < length work.old) × (v < 4294967296) }
     ensures { work.new ≡ put k work.old i v }
 {
@@ -58,17 +59,4 @@ pub(crate) fn put_point(list: &mut [i64], i: usize, p: Point64)
 {
     list[2 * i] = p.x;
     list[2 * i + 1] = p.y;
-}
-
-// Two of one line each, whose entries differ in type: a generic one would say no more than `fill` does.
-pub(crate) fn clear_store(list: &mut [i64])
-    ensures { list.new ≡ replicate (length list.old) (pos 0) }
-{
-    list.fill(0);
-}
-
-pub(crate) fn clear_work(work: &mut [u32])
-    ensures { work.new ≡ replicate (length work.old) 0 }
-{
-    work.fill(0);
 }

@@ -1,14 +1,15 @@
 // The walk of a closed path: where the `while` of `RectClip64::execute_internal` starts, and what follows it.
-ghost use Rattle.std.specs.Prelude.{IfOk, ◌≡◌, false, ◌+◌, ◌-◌, ◌*◌, ◌/◌, ◌<◌, ◌≤◌, length};
+ghost use Rattle.std.specs.Prelude.{◌≡◌, false, ◌+◌, ◌-◌, ◌*◌, ◌/◌, ◌<◌, ◌≤◌, length};
 ghost use Rattle.plane.specs.Locations.{start_locs_are_clockwise};
-ghost use Rattle.plane.specs.Points.{points_of, coordinates_of};
+ghost use Rattle.plane.specs.Points.{points_of};
 ghost use Rattle.reference.specs.Walk.{no_room, nothing_yet, add_all, last_off, surround, after_while, walk_from, walk_closed};
 ghost use Rattle.rectclip.specs.Memory.{at};
 ghost use Rattle.rectclip.specs.Walking.{location};
-ghost use Rattle.rectclip.specs.Outlining.{entries, steps_up, turned_by, round_of, round_corners, path_contains, corner_toward, close_walk, Drawn, Bounded, Walks, Outlines};
+ghost use Rattle.rectclip.specs.Outlining.{steps_up, turned_by, round_corners, path_contains, corner_toward, close_walk, Drawn, Bounded, Walks, Traces};
 ghost use Rattle.rectclip.specs.Steps.{walk, full, points, Steps};
 ghost use Rattle.rectclip.specs.Closing.{state_of};
 
+use crate::corners::Way;
 use crate::lists::{START_LOC, get, point_at};
 use crate::pass::ClosedState;
 use crate::polygon::path1_contains_path2;
@@ -18,25 +19,17 @@ use plane::crossing::SidePoint;
 use plane::location::Location;
 use plane::rect::Rect64;
 
-// How the path goes round the rectangle, where it contains it: the last four points are then the corners, each entered in the
-// clockwise edge list of its side.
-#[derive(Clone, Copy)]
-pub(crate) enum Round {
-    Never,
-    Clockwise,
-    CounterClockwise,
-}
-
-// The walk, and how it went round the rectangle.
+// The walk, and where the path contains the rectangle, whether it goes clockwise round it: the last four points are then the corners, each entered
+// in the clockwise edge list of its side.
 #[derive(Clone, Copy)]
 pub(crate) struct Outline {
     pub walk: WalkState,
-    pub round: Round,
+    pub around: Option<bool>,
 }
 
 // How many steps along the start sides go clockwise, and how many the other way.
 #[derive(Clone, Copy)]
-pub(crate) struct Turns {
+pub(crate) struct StepCounts {
     pub ups: usize,
     pub downs: usize,
 }
@@ -51,18 +44,18 @@ fn steps_up(a: Location, b: Location) -> bool
 }
 
 // The counts with the way from side `a` to side `b`.
-fn turned_by(t: Turns, a: Location, b: Location) -> Turns
+fn turned_by(t: StepCounts, a: Location, b: Location) -> StepCounts
     requires { (t.ups < 4294967296) × (t.downs < 4294967296) }
     ensures { result ≡ turned_by t a b }
 {
     if steps_up(a, b) {
-        return Turns {
+        return StepCounts {
             ups: t.ups + 1,
             ..t
         };
     }
     if steps_up(b, a) {
-        return Turns {
+        return StepCounts {
             downs: t.downs + 1,
             ..t
         };
@@ -70,65 +63,33 @@ fn turned_by(t: Turns, a: Location, b: Location) -> Turns
     t
 }
 
-// The corners' coordinates the other way round: left-bottom, right-bottom, right-top, left-top.
-fn corners_back(rect: Rect64) -> [i64; 8]
-    ensures { result ≡ coordinates_of (round_corners rect false) }
-{
-    let l = rect.left;
-    let t = rect.top;
-    let r = rect.right;
-    let b = rect.bottom;
-    [l, b, r, b, r, t, l, t]
-}
-
-// The way round as an answer.
-fn round_of(is_clockwise: bool) -> Round
-    ensures { result ≡ round_of is_clockwise }
-{
-    if is_clockwise {
-        return Round::Clockwise;
-    }
-    Round::CounterClockwise
-}
-
-// The last point off the edges among the first `n`, and its location.
-fn last_off(rect: Rect64, path: &[i64], n: usize) -> Option<SidePoint>
-    requires { n ≤ length path.now / 2 }
-    ensures { result ≡ last_off rect (points_of path.now) n }
-{
-    for i in (0..n).rev() {
-        let p = point_at(path, i);
-        let spot = rect.get_location(p);
-        if spot.off {
-            return Some(SidePoint {
-                point: p,
-                side: spot.loc,
-            });
-        }
-    }
-    None
-}
-
 impl Walker<'_> {
+    // The last point off the edges among the first `n`, and its location.
+    fn last_off(&self, n: usize) -> Option<SidePoint>
+        requires { n ≤ length self.now.path.now / 2 }
+        ensures { result ≡ last_off self.now.rect (points self.now) n }
+    {
+        (0..n).rev().find_map(|i| self.off_edges(i))
+    }
+
     // Start side `i`.
+    #[tactic(auto, using(crate::proofs::StartSides::location_inside, crate::proofs::StartSides::location_side))]
     fn start_loc(&self, i: usize) -> Location
         requires { i < self.now.state.start_locs }
         ensures { result ≡ location (at 5 self.now.work.now i) }
     {
-        match get(self.work, START_LOC, i) {
-            0 => Location::Left,
-            1 => Location::Top,
-            2 => Location::Right,
-            3 => Location::Bottom,
-            _ => Location::Inside,
+        let n = get(self.work, START_LOC, i);
+        if 4 <= n {
+            return Location::Inside;
         }
+        Location::from_number(n as u32)
     }
 
     // Whether the start sides go clockwise round the rectangle.
     fn start_locs_are_clockwise(&self) -> bool
         ensures { result ≡ start_locs_are_clockwise (walk self.now).start_locs }
     {
-        let mut t = Turns { ups: 0, downs: 0 };
+        let mut t = StepCounts { ups: 0, downs: 0 };
         for i in 1..self.state.start_locs {
             t = turned_by(t, self.start_loc(i - 1), self.start_loc(i));
         }
@@ -136,6 +97,7 @@ impl Walker<'_> {
     }
 
     // The corner on the way from side `p` to side `q`.
+    #[tactic(auto, using(crate::proofs::Retracing::toward_kept, crate::proofs::Retracing::toward_added, plane::proofs::Equality::same_location_is))]
     fn corner_toward(&mut self, p: Location, q: Location) -> Result<(), Refusal>
         ensures { Steps (corner_toward (full self.old) self.old.rect (walk self.old) p q) self.old self.new result }
     {
@@ -158,21 +120,21 @@ impl Walker<'_> {
         self.corner_toward(p, s.first_cross)
     }
 
-    // The four corners, one way round.
+    // The four corners, one way round: those from the left side to itself.
+    #[tactic(auto, using(crate::proofs::RectPath::round_added))]
     fn add_round(&mut self, is_clockwise: bool) -> Result<(), Refusal>
         ensures { Steps (add_all (full self.old) (walk self.old) (round_corners self.old.rect is_clockwise)) self.old self.new result }
     {
-        if is_clockwise {
-            let corners = self.rect.corners();
-            return self.add_all(&corners);
-        }
-        let corners = corners_back(self.rect);
-        self.add_all(&corners)
+        self.add_corners(Way {
+            from: Location::Left,
+            to: Location::Left,
+            is_clockwise,
+        })
     }
 
     // Whether the path contains the rectangle; its bounds are given, as the Rust has them in `path_bounds`. They are no field of the walker,
-    // since the open path's walk has no use for them.
-    fn contains_rect(&self, bounds: Rect64) -> bool
+    // since the open path's walk has no use for them, and none of a struct around it, which would have their fact proved again behind each step.
+    fn path_contains(&self, bounds: Rect64) -> bool
         requires { Bounded self.now.path.now bounds }
         ensures { result ≡ path_contains self.now.rect (points self.now) }
     {
@@ -184,17 +146,16 @@ impl Walker<'_> {
     }
 
     // A path that never crosses the boundary and starts outside: it may go round the rectangle.
-    fn surround(&mut self, bounds: Rect64) -> Result<Round, Refusal>
+    fn surround(&mut self, bounds: Rect64) -> Result<Option<bool>, Refusal>
         requires { Bounded self.old.path.now bounds }
-        ensures outlines { Outlines (surround (full self.old) self.old.rect (points self.old) (walk self.old)) self.old self.new result }
-        ensures corners { IfOk result (λ k. entries k ≤ self.new.state.points) }
+        ensures { Traces (surround (full self.old) self.old.rect (points self.old) (walk self.old)) self.old self.new result }
     {
-        if !self.contains_rect(bounds) {
-            return Ok(Round::Never);
+        if !self.path_contains(bounds) {
+            return Ok(None);
         }
         let is_clockwise = self.start_locs_are_clockwise();
         self.add_round(is_clockwise)?;
-        Ok(round_of(is_clockwise))
+        Ok(Some(is_clockwise))
     }
 
     // What follows the `while`.
@@ -203,51 +164,48 @@ impl Walker<'_> {
         bounds: Rect64,
         starting_loc: Location,
         s: ClosedState,
-    ) -> Result<Round, Refusal>
+    ) -> Result<Option<bool>, Refusal>
         requires { Bounded self.old.path.now bounds }
-        ensures outlines { Outlines (after_while (full self.old) self.old.rect (points self.old) starting_loc (state_of self.old s)) self.old self.new result }
-        ensures corners { IfOk result (λ k. entries k ≤ self.new.state.points) }
+        ensures { Traces (after_while (full self.old) self.old.rect (points self.old) starting_loc (state_of self.old s)) self.old self.new result }
     {
         if s.first_cross.is_inside() {
             if starting_loc.is_inside() {
-                return Ok(Round::Never);
+                return Ok(None);
             }
             return self.surround(bounds);
         }
         if !s.loc.is_inside() & ((s.loc != s.first_cross) | (2 < self.state.start_locs)) {
             self.close_outline(s)?;
-            return Ok(Round::Never);
+            return Ok(None);
         }
-        Ok(Round::Never)
+        Ok(None)
     }
 
-    // The walk from a starting location.
-    fn walk_from(&mut self, bounds: Rect64, loc: Location) -> Result<Round, Refusal>
+    // The walk from a starting location. That nothing is put down yet stays in the contracts, here and for open paths: the first step ends it.
+    fn walk_from(&mut self, bounds: Rect64, loc: Location) -> Result<Option<bool>, Refusal>
         requires { Bounded self.old.path.now bounds × (walk self.old ≡ nothing_yet) }
-        ensures outlines { Outlines (walk_from (full self.old) self.old.rect (points self.old) loc) self.old self.new result }
-        ensures corners { IfOk result (λ k. entries k ≤ self.new.state.points) }
+        ensures { Traces (walk_from (full self.old) self.old.rect (points self.old) loc) self.old self.new result }
     {
         let s = self.passes(ClosedState::new(loc))?;
         self.after_while(bounds, loc, s)
     }
 
     // `execute_internal` of a closed path.
-    fn walk_closed(&mut self, bounds: Rect64) -> Result<Round, Refusal>
+    fn walk_closed(&mut self, bounds: Rect64) -> Result<Option<bool>, Refusal>
         requires { Bounded self.old.path.now bounds × (walk self.old ≡ nothing_yet) }
-        ensures outlines { Outlines (walk_closed (full self.old) self.old.rect (points self.old)) self.old self.new result }
-        ensures corners { IfOk result (λ k. entries k ≤ self.new.state.points) }
+        ensures { Traces (walk_closed (full self.old) self.old.rect (points self.old)) self.old self.new result }
     {
         let n = self.path.len() / 2;
         if n == 0 {
-            return Ok(Round::Never);
+            return Ok(None);
         }
         let at_last = self.rect.get_location(point_at(self.path, n - 1));
         if at_last.off {
             return self.walk_from(bounds, at_last.loc);
         }
-        let Some(found) = last_off(self.rect, self.path, n - 1) else {
-            self.add_all(self.path)?;
-            return Ok(Round::Never);
+        let Some(found) = self.last_off(n - 1) else {
+            self.add_all()?;
+            return Ok(None);
         };
         if found.side.is_inside() {
             return self.walk_from(bounds, Location::Inside);
@@ -256,7 +214,8 @@ impl Walker<'_> {
     }
 }
 
-// The walk of a closed path, from its start.
+// The walk of a closed path, from its start. Its walker is not made in place from the call, as the line clipper's is: behind a list that a walker
+// takes from a field of the call, only the length is known once the walker is gone, and here the arena reads what the walk put down.
 pub(crate) fn walk_closed(
     rect: Rect64,
     path: &[i64],
@@ -274,9 +233,9 @@ pub(crate) fn walk_closed(
         work,
         state: WalkState::new(),
     };
-    let round = walker.walk_closed(bounds)?;
+    let around = walker.walk_closed(bounds)?;
     Ok(Outline {
         walk: walker.state,
-        round,
+        around,
     })
 }

@@ -1,10 +1,9 @@
 // What a pass of the `while` of `RectClip64::execute_internal` knows, and what it hands to the next.
 ghost use Rattle.std.specs.Prelude.{◌≡◌, ◌<◌};
-ghost use Rattle.plane.specs.Limit.{Limited};
 ghost use Rattle.plane.specs.declared.location.Location.TheVariants.{Inside};
 
+use crate::segment::Segment;
 use plane::location::Location;
-use plane::point::Point64;
 
 // What a pass of the `while` hands to the next.
 #[derive(Clone, Copy)]
@@ -29,7 +28,8 @@ impl ClosedState {
     }
 }
 
-// What a pass knows once `get_next_location` has moved on to the point `path[i]`.
+// What a pass knows once `get_next_location` has moved on to the point `path[i]`, where the segment ends.
+// The crossing that it finds goes beside it: a pass without one knows the same.
 #[derive(Clone, Copy)]
 pub(crate) struct Pass {
     pub i: usize,
@@ -37,9 +37,6 @@ pub(crate) struct Pass {
     pub loc: Location,
     pub crossing_prev: Location,
     pub first_cross: Location,
-    pub prev_pt: Point64,
-    pub pt: Point64,
+    pub segment: Segment,
     ghost soon: { i < 18446744073709551615 },
-    ghost start: { Limited prev_pt },
-    ghost end: { Limited pt },
 }

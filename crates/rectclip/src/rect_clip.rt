@@ -1,16 +1,16 @@
 // `RectClip64`: one closed path clipped to a rectangle.
-ghost use Rattle.std.specs.Prelude.{◌≡◌, true, ◌/◌, length};
+ghost use Rattle.std.specs.Prelude.{◌≡◌, true, ◌/◌, length, T};
 ghost use Rattle.plane.specs.Points.{points_of};
 ghost use Rattle.reference.specs.Walk.{no_room};
 ghost use Rattle.reference.specs.Clip.{clip_walked, execute};
+ghost use Rattle.theorems.specs.Demand.{is_walked};
 ghost use Rattle.rectclip.specs.Promises.{lent, ClipsPath};
-ghost use Rattle.rectclip.specs.Delivering.{walked_of, walk_drawing, Gives, OutlineClips, WalkClips, Clippable};
+ghost use Rattle.rectclip.specs.Delivering.{walked_of, walk_drawing, SameCall, Gives, OutlineClips};
 
-use crate::clipping::clip_walked;
-use crate::deliver::{deliver_copy, deliver_paths};
-use crate::lines::no_paths;
-use crate::lists::{clear_store, clear_work};
+use crate::call::Call;
+use crate::deliver::{deliver_copy, no_paths};
 use crate::outline::{Outline, walk_closed};
+use crate::output::Output;
 use crate::walked::walked_arena;
 use entry::admission::admit;
 use entry::answer::Answer;
@@ -22,80 +22,49 @@ pub struct RectClip64 {
     pub rect: Rect64,
 }
 
-// The walked outline is clipped and handed out.
-fn clip_outline(
-    rect: Rect64,
-    allowance: usize,
-    store: &[i64],
-    work: &mut [u32],
-    o: Outline,
-    coordinates: &mut [i64],
-    lengths: &mut [u32],
-) -> Answer
-    requires { OutlineClips rect allowance store.now work.old o }
-    ensures { Gives (clip_walked allowance rect (walked_of store.now work.old o)) coordinates.old lengths.old result coordinates.new lengths.new }
-{
-    let slots = store.len() / 2 + allowance + 1;
-    let mut arena = walked_arena(store, work, slots, o);
-    let clipped = clip_walked(&mut arena, rect, allowance)?;
-    deliver_paths(&arena, clipped, coordinates, lengths)
-}
+impl Call<'_> {
+    // The walked outline is clipped and handed out.
+    fn clip_outline(&mut self, o: Outline, output: &mut Output) -> Answer
+        requires { OutlineClips self.old o }
+        ensures same { SameCall self.old self.new }
+        ensures gives { Gives (clip_walked self.old.allowance self.old.rect (walked_of self.old.store.now self.old.work.now o)) output.old result output.new }
+    {
+        let slots = self.store.len() / 2 + self.allowance + 1;
+        let mut arena = walked_arena(self.store, self.work, slots, o);
+        let clipped = arena.clip_arena(self.rect, self.allowance)?;
+        arena.deliver_paths(clipped, output)
+    }
 
-// The path is walked, and its outline clipped.
-fn clip_path(
-    rect: Rect64,
-    path: &[i64],
-    bounds: Rect64,
-    allowance: usize,
-    store: &mut [i64],
-    work: &mut [u32],
-    coordinates: &mut [i64],
-    lengths: &mut [u32],
-) -> Answer
-    requires { WalkClips rect path.now bounds allowance store.old work.old }
-    ensures { Gives (walk_drawing (no_room (length store.old / 2)) allowance rect (points_of path.now)) coordinates.old lengths.old result coordinates.new lengths.new }
-{
-    let o = walk_closed(rect, path, bounds, store, work)?;
-    clip_outline(rect, allowance, store, work, o, coordinates, lengths)
-}
+    // The path is walked, and its outline clipped.
+    fn clip_path(&mut self, output: &mut Output) -> Answer
+        requires { T (is_walked self.old.rect (points_of self.old.path.now)) }
+        ensures same { SameCall self.old self.new }
+        ensures gives { Gives (walk_drawing (no_room (length self.old.store.now / 2)) self.old.allowance self.old.rect (points_of self.old.path.now)) output.old result output.new }
+    {
+        let o = walk_closed(self.rect, self.path, self.bounds, self.store, self.work)?;
+        self.clip_outline(o, output)
+    }
 
-// Nothing under an empty rectangle, of less than three points, and of bounds that miss it; the path itself where its bounds are in
-// the rectangle; else the path is walked.
-fn draw_closed(
-    rect: Rect64,
-    path: &[i64],
-    bounds: Rect64,
-    allowance: usize,
-    store: &mut [i64],
-    work: &mut [u32],
-    coordinates: &mut [i64],
-    lengths: &mut [u32],
-) -> Answer
-    requires { Clippable rect path.now bounds allowance store.old work.old }
-    ensures { Gives (execute (no_room (length store.old / 2)) allowance rect (points_of path.now)) coordinates.old lengths.old result coordinates.new lengths.new }
-{
-    if rect.is_empty() {
-        return no_paths();
+    // Nothing under an empty rectangle, of less than three points, and of bounds that miss it; the path itself where its bounds are in
+    // the rectangle; else the path is walked.
+    fn draw_closed(&mut self, output: &mut Output) -> Answer
+        ensures same { SameCall self.old self.new }
+        ensures gives { Gives (execute (no_room (length self.old.store.now / 2)) self.old.allowance self.old.rect (points_of self.old.path.now)) output.old result output.new }
+    {
+        if self.rect.is_empty() {
+            return no_paths();
+        }
+        if self.path.len() / 2 < 3 {
+            return no_paths();
+        }
+        if !self.rect.intersects(self.bounds) {
+            return no_paths();
+        }
+        if self.rect.contains_rect(self.bounds) {
+            return deliver_copy(self.path, output);
+        }
+        self.clip_path(output)
     }
-    if path.len() / 2 < 3 {
-        return no_paths();
-    }
-    if !rect.intersects(bounds) {
-        return no_paths();
-    }
-    if rect.contains_rect(bounds) {
-        return deliver_copy(path, coordinates, lengths);
-    }
-    clip_path(
-        rect,
-        path,
-        bounds,
-        allowance,
-        store,
-        work,
-        coordinates,
-        lengths,
-    )
 }
 
 impl RectClip64 {
@@ -121,18 +90,17 @@ impl RectClip64 {
     {
         let most = allowance as usize;
         let bounds = admit(self.rect, path, store.len() / 2, most, work.len())?;
-        let answer = draw_closed(
-            self.rect,
+        let mut call = Call {
+            rect: self.rect,
             path,
             bounds,
-            most,
+            allowance: most,
             store,
             work,
-            coordinates,
-            lengths,
-        );
-        clear_store(store);
-        clear_work(work);
+        };
+        let mut output = Output::new(coordinates, lengths);
+        let answer = call.draw_closed(&mut output);
+        call.clear();
         answer
     }
 }

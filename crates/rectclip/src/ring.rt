@@ -2,28 +2,20 @@
 ghost use Rattle.std.specs.Prelude.{◌≡◌, ◌<◌, ◌≤◌, ◌*◌, ◌+◌, length};
 ghost use Rattle.rectclip.specs.Memory.{Room};
 ghost use Rattle.rectclip.specs.Stored.{Drawn};
-ghost use Rattle.rectclip.specs.Rings.{Placed, after, Linked, Built};
+ghost use Rattle.rectclip.specs.Rings.{Placed, Linked, Built};
 
 use crate::arena::{Arena, Sizes};
-use crate::lists::{EDGE, NEXT, NONE, OWNER, PREV, RESULT, store};
+use crate::lists::{EDGE, NEXT, NONE, OWNER, PREV, RESULT, put};
 
 // Node `i` is new: its links, owner 0, in no edge list.
 pub(crate) fn put_node(work: &mut [u32], i: usize, next: usize, prev: usize)
     requires { (16 * i + 16 ≤ length work.old) × (next < 4294967296) × (prev < 4294967296) }
     ensures { Placed work.old work.new i next prev }
 {
-    store(work, NEXT, i, next);
-    store(work, PREV, i, prev);
-    store(work, OWNER, i, 0);
-    store(work, EDGE, i, NONE);
-}
-
-// The node after node `i` of `n`.
-pub(crate) fn after(n: usize, i: usize) -> usize
-    requires { i < n }
-    ensures { result ≡ after n i }
-{
-    if i + 1 == n { 0 } else { i + 1 }
+    put(work, NEXT, i, next);
+    put(work, PREV, i, prev);
+    put(work, OWNER, i, 0);
+    put(work, EDGE, i, NONE);
 }
 
 // The first `n` slots are nodes in a ring.
@@ -33,7 +25,7 @@ pub(crate) fn link_nodes(work: &mut [u32], n: usize)
 {
     let mut prev = n - 1;
     for i in 0..n {
-        put_node(work, i, after(n, i), prev);
+        put_node(work, i, (i + 1) % n, prev);
         prev = i;
     }
 }
@@ -49,27 +41,17 @@ pub(crate) fn build_ring<'a>(
     ensures built { Built points.now work.old slots n result }
     ensures name { result.work.ghost_name ≡ work.entry.ghost_name }
 {
-    if n == 0 {
-        let sizes = Sizes {
-            slots,
-            nodes: 0,
-            results: 0,
-            lens: [0; 8],
-        };
-        return Arena {
-            store: points,
-            work,
-            sizes,
-        };
-    }
-    link_nodes(work, n);
-    store(work, RESULT, 0, n - 1);
-    let sizes = Sizes {
+    let mut sizes = Sizes {
         slots,
         nodes: n,
-        results: 1,
+        results: 0,
         lens: [0; 8],
     };
+    if 0 < n {
+        link_nodes(work, n);
+        put(work, RESULT, 0, n - 1);
+        sizes.results = 1;
+    }
     Arena {
         store: points,
         work,

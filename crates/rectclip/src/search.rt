@@ -36,41 +36,41 @@ impl Segment {
     }
 
     // The crossing of a segment whose ends are strictly on either side of the edge's line: an end of the edge on the segment, or a point between.
-    #[tactic(auto, unfolding(crate::specs::Parted::edge_ends))]
+    #[tactic(auto, using(crate::proofs::Segments::sign_zero, crate::proofs::Segments::sign_positive), unfolding(crate::specs::Parted::edge_ends))]
     fn edge_ends(self, edge: Segment) -> Option<Point64>
         ensures { result ≡ edge_ends self.from self.to edge.from edge.to }
     {
         let res3 = cross_product_sign(edge.from, self.from, self.to);
-        if res3 == 0 {
+        if res3.is_eq() {
             return self.at_end(edge.from);
         }
         let res4 = cross_product_sign(edge.to, self.from, self.to);
-        if res4 == 0 {
+        if res4.is_eq() {
             return self.at_end(edge.to);
         }
-        if (0 < res3) == (0 < res4) {
+        if res3.is_gt() == res4.is_gt() {
             return None;
         }
         self.get_segment_intersect_pt(edge)
     }
 
     // Where the segment and an edge meet, in whole numbers. Ends before floats; collinear segments answer no.
-    #[tactic(auto, unfolding(plane::specs::Intersection::get_segment_intersection, crate::specs::Parted::edge_ends))]
+    #[tactic(auto, using(crate::proofs::Segments::sign_zero, crate::proofs::Segments::sign_positive), unfolding(plane::specs::Intersection::get_segment_intersection, crate::specs::Parted::edge_ends))]
     fn get_segment_intersection(self, edge: Segment) -> Option<Point64>
         ensures { result ≡ get_segment_intersection self.from self.to edge.from edge.to }
     {
         let res1 = cross_product_sign(self.from, edge.from, edge.to);
         let res2 = cross_product_sign(self.to, edge.from, edge.to);
-        if res1 == 0 {
-            if res2 == 0 {
+        if res1.is_eq() {
+            if res2.is_eq() {
                 return None;
             }
             return edge.at_end(self.from);
         }
-        if res2 == 0 {
+        if res2.is_eq() {
             return edge.at_end(self.to);
         }
-        if (0 < res1) == (0 < res2) {
+        if res1.is_gt() == res2.is_gt() {
             return None;
         }
         self.edge_ends(edge)
@@ -105,15 +105,14 @@ impl Search {
         }
     }
 
-    // The crossing with the edge of a side.
+    // The crossing with the edge of a side. By `?` and no `map`, which copies what it answers over the stack in halves: a passing segment waits for them.
     #[tactic(auto, unfolding(plane::specs::Intersection::edge_intersection))]
     fn edge_intersection(self, side: Location) -> Option<SidePoint>
         ensures { result ≡ edge_intersection self.rect side self.segment.from self.segment.to }
     {
         let edge = self.edge(side);
-        self.segment
-            .get_segment_intersection(edge)
-            .map(|point| SidePoint { point, side })
+        let point = self.segment.get_segment_intersection(edge)?;
+        Some(SidePoint { point, side })
     }
 
     // The crossing with the edge of a side that the segment starts beyond.

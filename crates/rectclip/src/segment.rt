@@ -5,12 +5,13 @@ ghost use Rattle.plane.specs.Limit.{Limited};
 ghost use Rattle.plane.specs.Signs.{cross_product_sign, is_collinear, cross_product_is_negative, is_clockwise_dir};
 ghost use Rattle.plane.specs.Segment.{working_of, crossing_of, point_at, settled_of, intersection};
 ghost use Rattle.plane.specs.Found.{NearCrossing};
-ghost use Rattle.rectclip.specs.Bounds.{Turn, LimitedTurn, cross_products};
+ghost use Rattle.rectclip.specs.Bounds.{Turn, cross_products, sign_of};
 
 use plane::crossing::{Crossing, Working};
 use plane::location::Location;
 use plane::point::Point64;
 use rounding::to_whole;
+use std::cmp::Ordering;
 
 // The two products whose difference is the cross product of a turn.
 #[derive(Clone, Copy)]
@@ -42,20 +43,14 @@ fn cross_products(p1: Point64, p2: Point64, p3: Point64) -> Products
     Products { ab, cd }
 }
 
-// The sign of the cross product of the turn p1, p2, p3: 1, -1 or 0, a number compared with 0, as in the Rust and the definition.
-#[tactic(auto, using(crate::proofs::CrossProducts::ab_below, crate::proofs::CrossProducts::cd_below), unfolding(plane::specs::Signs::cross_product_sign))]
-pub(crate) fn cross_product_sign(p1: Point64, p2: Point64, p3: Point64) -> i64
+// The sign of the cross product of the turn p1, p2, p3, as how it compares with 0.
+#[tactic(auto, using(crate::proofs::CrossProducts::sign_is))]
+pub(crate) fn cross_product_sign(p1: Point64, p2: Point64, p3: Point64) -> Ordering
     requires { Turn p1 p2 p3 }
-    ensures { result ≡ cross_product_sign p1 p2 p3 }
+    ensures { sign_of result ≡ cross_product_sign p1 p2 p3 }
 {
     let turn = cross_products(p1, p2, p3);
-    if turn.cd < turn.ab {
-        1
-    } else if turn.ab < turn.cd {
-        -1
-    } else {
-        0
-    }
+    turn.ab.cmp(&turn.cd)
 }
 
 // Whether the three points are on one line.
@@ -68,36 +63,8 @@ pub(crate) fn is_collinear(p1: Point64, shared: Point64, p2: Point64) -> bool
     turn.ab == turn.cd
 }
 
-// `cross_product_three_points < 0.0`: within the coordinate limit the binary64 numbers are whole numbers that i64 holds.
-pub(crate) fn cross_product_is_negative(p1: Point64, p2: Point64, p3: Point64) -> bool
-    requires { LimitedTurn p1 p2 p3 }
-    ensures { result ≡ cross_product_is_negative p1 p2 p3 }
-{
-    let turn = cross_products(p1, p2, p3);
-    turn.ab < turn.cd
-}
-
-// Whether the way from one location to another goes clockwise round the rectangle, whose mid point decides between opposite sides.
-#[tactic(auto, unfolding(plane::specs::Signs::is_clockwise_dir))]
-pub(crate) fn is_clockwise_dir(
-    prev: Location,
-    curr: Location,
-    prev_pt: Point64,
-    curr_pt: Point64,
-    rect_mp: Point64,
-) -> bool
-    requires { LimitedTurn prev_pt rect_mp curr_pt }
-    ensures { result ≡ is_clockwise_dir prev curr prev_pt curr_pt rect_mp }
-{
-    if prev.are_opposites(curr) {
-        cross_product_is_negative(prev_pt, rect_mp, curr_pt)
-    } else {
-        prev.heading_clockwise(curr)
-    }
-}
-
 // A coordinate as a float.
-pub(crate) fn to_float(z: i64) -> f64
+fn to_float(z: i64) -> f64
     requires { Limit z }
     ensures { result ≡ float z }
 {
@@ -106,7 +73,7 @@ pub(crate) fn to_float(z: i64) -> f64
 
 // The point at the fraction t of the segment, cut toward zero.
 #[tactic(auto, unfolding(plane::specs::Segment::point_at))]
-pub(crate) fn point_at(w: Working, t: f64) -> Point64
+fn point_along(w: Working, t: f64) -> Point64
     ensures { result ≡ point_at w t }
 {
     let x = to_whole(w.x + t * w.dx);
@@ -115,16 +82,50 @@ pub(crate) fn point_at(w: Working, t: f64) -> Point64
 }
 
 // Where the segment and the edge meet: the crossing, its fraction cut to a point.
-pub(crate) fn settled(c: Option<Crossing>, w: Working) -> Option<Point64>
+fn settled(c: Option<Crossing>, w: Working) -> Option<Point64>
     ensures { result ≡ settled_of c w }
 {
     c.map(|crossing| match crossing {
         Crossing::At(p) => p,
-        Crossing::Along(t) => point_at(w, t),
+        Crossing::Along(t) => point_along(w, t),
     })
 }
 
 impl Segment {
+    // `cross_product_three_points < 0.0` of the turn at a point between the ends: within the coordinate limit the binary64 numbers are whole
+    // numbers that i64 holds.
+    fn cross_product_is_negative(self, shared: Point64) -> bool
+        requires { Limited shared }
+        ensures { result ≡ cross_product_is_negative self.from shared self.to }
+    {
+        let turn = cross_products(self.from, shared, self.to);
+        turn.ab < turn.cd
+    }
+
+    // Whether the way from one location to another goes clockwise round the rectangle, whose mid point decides between opposite sides.
+    #[tactic(auto, unfolding(plane::specs::Signs::is_clockwise_dir))]
+    pub(crate) fn is_clockwise_dir(self, prev: Location, curr: Location, rect_mp: Point64) -> bool
+        requires { Limited rect_mp }
+        ensures { result ≡ is_clockwise_dir prev curr self.from self.to rect_mp }
+    {
+        if prev.are_opposites(curr) {
+            self.cross_product_is_negative(rect_mp)
+        } else {
+            prev.heading_clockwise(curr)
+        }
+    }
+
+    // The same segment, the other way.
+    pub(crate) fn reversed(self) -> Segment
+        ensures starts { result.from ≡ self.to }
+        ensures ends { result.to ≡ self.from }
+    {
+        Segment {
+            from: self.to,
+            to: self.from,
+        }
+    }
+
     // The working of the segment against an edge.
     #[tactic(auto, unfolding(plane::specs::Segment::working_of))]
     fn measured(self, edge: Segment) -> Working

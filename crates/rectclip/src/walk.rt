@@ -1,14 +1,16 @@
 // The walk that both clippers share: its state, `add` and the start sides. Corners are in corners.rt, `get_next_location` in next.rt.
 // Points are only ever put behind the last one, so the store holds those of all results, in order.
-ghost use Rattle.std.specs.Prelude.{◌≡◌, ◌<◌, true};
-ghost use Rattle.plane.specs.Limit.{all_in_limit};
+ghost use Rattle.std.specs.Prelude.{◌≡◌, ◌/◌, ◌<◌, true, length};
 ghost use Rattle.plane.specs.Points.{points_of, pt_at};
 ghost use Rattle.reference.specs.Walk.{add, add_all, push_start_loc};
 ghost use Rattle.rectclip.specs.Bounds.{Reached};
-ghost use Rattle.rectclip.specs.Walking.{Fits, Sheet};
+ghost use Rattle.rectclip.specs.Walking.{Fits, Sheet, off_edges};
 
-use crate::lists::{RESULT, START_LOC, point_at, put_point, store as store_field};
+use crate::lists::{RESULT, START_LOC, point_at, put, put_point};
+use crate::search::Search;
+use crate::segment::Segment;
 use entry::answer::Refusal;
+use plane::crossing::SidePoint;
 use plane::location::Location;
 use plane::point::Point64;
 use plane::rect::Rect64;
@@ -47,7 +49,32 @@ pub(crate) struct Walker<'a> {
 }
 
 impl<'a> Walker<'a> {
-    ghost use Rattle.rectclip.specs.Steps.{walk, full, Steps};
+    ghost use Rattle.rectclip.specs.Steps.{walk, full, points, Steps};
+
+    // The search for a segment's crossing with the rectangle's boundary.
+    pub(crate) fn search(&self, segment: Segment) -> Search
+        ensures frame { result.rect ≡ self.now.rect }
+        ensures starts { result.segment.from ≡ segment.from }
+        ensures ends { result.segment.to ≡ segment.to }
+    {
+        Search {
+            rect: self.rect,
+            segment,
+        }
+    }
+
+    // The point at position `i` of the path, if it is off the edges, and its location.
+    pub(crate) fn off_edges(&self, i: usize) -> Option<SidePoint>
+        requires { i < length self.now.path.now / 2 }
+        ensures { result ≡ off_edges self.now.rect (pt_at (points self.now) i) }
+    {
+        let point = point_at(self.path, i);
+        let spot = self.rect.get_location(point);
+        spot.off.then_some(SidePoint {
+            point,
+            side: spot.loc,
+        })
+    }
 
     // The point at position `i` that the walk has put down.
     fn point_at(&self, i: usize) -> Point64
@@ -67,7 +94,7 @@ impl<'a> Walker<'a> {
             return Err(Refusal::StoreFull);
         }
         put_point(self.store, n, pt);
-        store_field(self.work, RESULT, self.state.starts, n);
+        put(self.work, RESULT, self.state.starts, n);
         self.state.points = n + 1;
         self.state.starts += 1;
         Ok(())
@@ -79,10 +106,7 @@ impl<'a> Walker<'a> {
         ensures { Steps (add (full self.old) (walk self.old) pt start_new) self.old self.new result }
     {
         let n = self.state.points;
-        if start_new {
-            return self.begin(pt);
-        }
-        if n == 0 {
+        if start_new | (n == 0) {
             return self.begin(pt);
         }
         let last = self.point_at(n - 1);
@@ -98,12 +122,11 @@ impl<'a> Walker<'a> {
     }
 
     // Every point of the path is added.
-    pub(crate) fn add_all(&mut self, path: &[i64]) -> Result<(), Refusal>
-        requires { all_in_limit path.now ≡ true }
-        ensures { Steps (add_all (full self.old) (walk self.old) (points_of path.now)) self.old self.new result }
+    pub(crate) fn add_all(&mut self) -> Result<(), Refusal>
+        ensures { Steps (add_all (full self.old) (walk self.old) (points self.old)) self.old self.new result }
     {
-        for i in 0..path.len() / 2 {
-            self.add(point_at(path, i), false)?;
+        for i in 0..self.path.len() / 2 {
+            self.add(point_at(self.path, i), false)?;
         }
         Ok(())
     }
@@ -116,7 +139,7 @@ impl<'a> Walker<'a> {
         if self.store.len() / 2 <= n {
             return Err(Refusal::StoreFull);
         }
-        store_field(self.work, START_LOC, n, u32::from(loc) as usize);
+        put(self.work, START_LOC, n, u32::from(loc) as usize);
         self.state.start_locs = n + 1;
         Ok(())
     }

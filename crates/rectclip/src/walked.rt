@@ -3,34 +3,27 @@ ghost use Rattle.std.specs.Prelude.{◌≡◌};
 ghost use Rattle.reference.specs.Clip.{enter_all};
 ghost use Rattle.rectclip.specs.Changes.{arena_of, Enters};
 ghost use Rattle.rectclip.specs.Outlining.{entered_of, entries};
-ghost use Rattle.rectclip.specs.Delivering.{corners_in, Cornered, FourLists, Arranging, Arranged};
+ghost use Rattle.rectclip.specs.Delivering.{Cornered, Arranging, Arranged};
 
 use crate::arena::Arena;
-use crate::edges::add_to_edge;
-use crate::outline::{Outline, Round};
+use crate::outline::Outline;
 use crate::ring::build_ring;
+use crate::side::Side;
 
-// The last four nodes enter these lists.
-fn enter_corners(a: &mut Arena, e0: usize, e1: usize, e2: usize, e3: usize)
-    requires { Cornered a.old 4 × FourLists e0 e1 e2 e3 }
-    ensures { Enters a.old a.new (enter_all (arena_of a.old) (corners_in a.old.sizes.nodes e0 e1 e2 e3)) }
-{
-    let n = a.sizes.nodes;
-    add_to_edge(a, e0, n - 4);
-    add_to_edge(a, e1, n - 3);
-    add_to_edge(a, e2, n - 2);
-    add_to_edge(a, e3, n - 1);
-}
-
-// Where the walk went round, the corners enter the clockwise lists of their sides.
-fn enter_round(a: &mut Arena, round: Round)
-    requires { Cornered a.old (entries round) }
-    ensures { Enters a.old a.new (enter_all (arena_of a.old) (entered_of a.old.sizes.nodes round)) }
-{
-    match round {
-        Round::Never => {}
-        Round::Clockwise => enter_corners(a, 0, 2, 4, 6),
-        Round::CounterClockwise => enter_corners(a, 6, 4, 2, 0),
+impl Arena<'_> {
+    // Where the walk went round, the last four nodes are the corners that way round, and enter the clockwise lists of their sides.
+    fn enter_round(&mut self, around: Option<bool>)
+        requires { Cornered self.old (entries around) }
+        ensures { Enters self.old self.new (enter_all (arena_of self.old) (entered_of self.old.sizes.nodes around)) }
+    {
+        let Some(clockwise) = around else {
+            return;
+        };
+        let first = self.sizes.nodes - 4;
+        for k in 0..4 {
+            let idx = if clockwise { k } else { 3 - k };
+            self.add_to_edge(Side { idx }.cw(), first + k);
+        }
     }
 }
 
@@ -47,6 +40,6 @@ pub(crate) fn walked_arena<'a>(
 {
     let walk = o.walk;
     let mut a = build_ring(points, work, slots, walk.points);
-    enter_round(&mut a, o.round);
+    a.enter_round(o.around);
     a
 }

@@ -1,168 +1,117 @@
--- The digits of a number, one more at a time, and a field's sign. Assumes nothing.
-use Rattle.std.specs.Prelude.{Option, Some, None, if◌then◌else◌}
-use mathlib.Core.Path.{◌≡◌, refl, sym, ◌∙◌, ap}
+-- A field's number is what the library's `parse` reads, where no plus stands first. Assumes nothing.
+use Rattle.std.specs.Prelude.{Some, None, if◌then◌else◌, Result, Ok, Err}
+use mathlib.Core.Path.{◌≡◌, refl, sym, ◌∙◌, ap, subst}
 use mathlib.Core.Bool.{Bool, true, false, not, ◌&&◌, ◌||◌}
+use mathlib.Core.Logic.{◌≢◌}
 use mathlib.Core.List.{List, [], ◌∷◌}
-use Prim.Native.Nat.{ℕ, zero, suc, ◌+◌, ◌-◌, ◌*◌, ◌^◌, ◌<◌, ◌≤◌}
+use Prim.Native.Nat.{ℕ, zero, suc, ◌-◌, ◌^◌, ◌<◌}
 use native.Mathlib.Omega.{arith}
-use native.Mathlib.Numerals.{add-one}
-use lib.ListN.{length, drop, get_or, drop_of_length-le}
-use lib.Seq.{drop-cons}
-use lib.Dec.{eqb, leb, ltb}
+use lib.ListN.{length, get_or}
+use lib.Dec.{eqb, leb}
 use lib.IntN.{ℤ, pos, neg_ℤ}
-use borrow.Author.Tests.{lt-leb, leb-true, leb-false, lt-ltb, le-ltb, ltb-false}
-use lib.IntN.{◌+ℤ◌, ◌-ℤ◌}
-use lib.Pointwise.{pointwise}
-use lib.ListN.{take}
+use borrow.Author.Rules.{rules}
+use borrow.Author.Tests.{le-leb, leb-true, eqb-true, eqb-false}
 use mir.Syntax.{w64}
-use mir.Val.{SFits}
-use Rattle.std.specs.Prelude.{SomeIff}
-use Rattle.integers.specs.Order.{zint, add_pn, sub_pn, neg_pn}
+use Rattle.std.specs.List.{starts_with}
+use Rattle.std.specs.Result.{OkIff, result_ok}
+use Rattle.std.specs.Str.{IsAscii, IsUtf8}
+use Rattle.std.specs.Str.Parse.{ParsesSigned}
+use Rattle.std.proofs.lemmas.Str.{IsUtf8-from_ascii}
+use Rattle.std.proofs.lemmas.Str.Parse.{IsDigitsTest, IsNumeralModel, numerals_by_fold, parse_signed_minus, parse_signed_plain}
 use Rattle.plane.specs.Basics.{is_nil}
-use Rattle.text.specs.Decimal.{field, digits_of, is_digit, all_digits, value_from}
-use Rattle.text.specs.Scanning.{digits_value}
+use Rattle.text.specs.Decimal.{field, digits_of, all_digits, value_from}
 
--- ---- the digits from i on, where those before them stand for v
-pub record DigitsFrom (bs : List ℕ) (v i : ℕ) : Type 0 where
-  pub value : value_from v (drop i bs) ≡ value_from 0 bs
-  pub digits : all_digits (drop i bs) ≡ all_digits bs
-  pub some : is_nil bs ≡ false
-  pub fits : v < 2 ^ 64
+-- ---- the definition's digits are the library's
+tells : IsDigitsTest (λ ds. all_digits ds ≡ true)
+tells = search rules
 
--- more digits make it no smaller
-value_most : (v : ℕ) (bs : List ℕ) → v ≤ value_from v bs
-value_most v [] = omega arith
-value_most v (b ∷ bs) = omega (arith, value_most (10 * v + (b - 48)) bs)
+own : IsNumeralModel (λ ds. all_digits ds ≡ true) (value_from 0)
+own = numerals_by_fold _ tells value_from (search rules)
 
-some_of : (bs : List ℕ) → (length bs ≡ 0 → ⊥) → is_nil bs ≡ false
-some_of [] h = absurd (h refl)
-some_of (b ∷ bs) h = refl
+-- what is no digits is no number
+or_true : (t : Bool) → (t || true) ≡ true
+or_true true = refl
+or_true false = refl
 
-pub digits_start : (bs : List ℕ) → (length bs ≡ 0 → ⊥) → DigitsFrom bs 0 0
-digits_start bs h = record { value = refl; digits = refl; some = some_of bs h; fits = omega arith }
+no_digits : (negative : Bool) (ds : List ℕ) → all_digits ds ≡ false → None ≡ digits_of negative ds
+unfolding digits_of
+no_digits negative ds e = rw (e, or_true (is_nil ds)) refl
 
-pub value_nil : (bs : List ℕ) → length bs ≡ 0 → None ≡ digits_value bs
-unfolding digits_value
-value_nil [] h = refl
-value_nil (b ∷ bs) h = absurd (omega arith)
+-- ---- what the library reads of digits
+module _ {E : Type 0} (ds : List ℕ) (z : ℤ) {F : Type 0} (t : Bool) (to : F → t ≡ true) (from : t ≡ true → F) where
+  digits_read : (r : Result ℤ E) → OkIff r ((all_digits ds ≡ true) × (0 < length ds) × F) z
+      → result_ok r ≡ (if is_nil ds || not (all_digits ds) then None else if t then Some z else None)
+  digits_read r h = go (is_nil ds) (all_digits ds) t refl refl refl r h
+    where
+      some : (l : List ℕ) → is_nil l ≡ false → 0 < length l
+      some [] e = absurd (let y : ◌≡◌ {A = ℕ} 0 1 = cc in omega arith)
+      some (x ∷ l) e = omega arith
 
-module _ {bs : List ℕ} {v i : ℕ} (s : DigitsFrom bs v i) where
-  -- with a byte that is no digit it is no number
-  pub value_broken : i < length bs → is_digit (get_or bs i 0) ≡ false → None ≡ digits_value bs
-  unfolding digits_value
-  value_broken h e =
-      let d : all_digits bs ≡ false = sym s.digits ∙ ap all_digits (drop-cons bs i 0 h) ∙ rw e refl in
-      rw (s.some, d) refl
+      none : (l : List ℕ) → is_nil l ≡ true → 0 < length l → ⊥
+      none [] e h = omega arith
+      none (x ∷ l) e h = absurd (let y : ◌≡◌ {A = ℕ} 0 1 = cc in omega arith)
 
-  module _ (h : i < length bs) (e : is_digit (get_or bs i 0) ≡ true) where
-    value_again : {w : ℕ} → w ≡ v * 10 + (get_or bs i 0 - 48) → value_from w (drop (i + 1) bs) ≡ value_from 0 bs
-    value_again {w} q =
-        let n : 10 * v + (get_or bs i 0 - 48) ≡ w = omega arith in
-        ap (λ (k : ℕ). value_from w (drop k bs)) (add-one i) ∙ ap (λ (x : ℕ). value_from x (drop (suc i) bs)) (sym n) ∙ sym (ap (value_from v) (drop-cons bs i 0 h)) ∙ s.value
+      go : (n a u : Bool) → is_nil ds ≡ n → all_digits ds ≡ a → t ≡ u → (r : Result ℤ E) → OkIff r ((all_digits ds ≡ true) × (0 < length ds) × F) z
+          → result_ok r ≡ (if n || not a then None else if u then Some z else None)
+      go true a u en ea eu (Ok x) h = absurd (none ds en h.0.1)
+      go true a u en ea eu (Err x) h = refl
+      go false false u en ea eu (Ok x) h = absurd (let y : ◌≡◌ {A = ℕ} 0 1 = (let q = sym ea ∙ h.0.0 in cc) in omega arith)
+      go false false u en ea eu (Err x) h = refl
+      go false true true en ea eu (Ok x) h = ap Some h.1
+      go false true true en ea eu (Err x) h = absurd (h (ea, some ds en, from eu))
+      go false true false en ea eu (Ok x) h = absurd (let y : ◌≡◌ {A = ℕ} 0 1 = (let q = sym eu ∙ to h.0.2 in cc) in omega arith)
+      go false true false en ea eu (Err x) h = refl
 
-    pub digits_again : {w : ℕ} → w ≡ v * 10 + (get_or bs i 0 - 48) → w < 2 ^ 64 → DigitsFrom bs w (i + 1)
-    digits_again {w} q f =
-        record {
-          value = value_again q;
-          digits = ap (λ (k : ℕ). all_digits (drop k bs)) (add-one i) ∙ sym (ap all_digits (drop-cons bs i 0 h) ∙ rw e refl) ∙ s.digits;
-          some = s.some;
-          fits = f;
-        }
-
-    -- and where it is larger than 64 bits hold, so is all of it
-    pub value_large : 2 ^ 64 ≤ v * 10 + (get_or bs i 0 - 48) → None ≡ digits_value bs
-    unfolding digits_value
-    value_large g =
-        let m : 2 ^ 64 ≤ value_from 0 bs = omega (arith, g, value_most (v * 10 + (get_or bs i 0 - 48)) (drop (i + 1) bs), value_again refl) in
-        go (all_digits bs) m
-      where
-        go : (b : Bool) → 2 ^ 64 ≤ value_from 0 bs → None ≡ (if is_nil bs || not b then None else if ltb (value_from 0 bs) (2 ^ 64) then Some (value_from 0 bs) else None)
-        go true m = rw (s.some, le-ltb _ _ m) refl
-        go false m = rw s.some refl
-
-  pub value_is : length bs ≤ i → Some v ≡ digits_value bs
-  unfolding digits_value
-  value_is h =
-      let n : drop i bs ≡ [] = drop_of_length-le bs {i = i} h in
-      let d : all_digits bs ≡ true = sym s.digits ∙ ap all_digits n in
-      let e : value_from 0 bs ≡ v = sym s.value ∙ ap (value_from v) n in
-      rw (s.some, d, e, lt-ltb v (2 ^ 64) s.fits) refl
-
--- ---- a field's sign
-abbrev signed : Bool → Option ℕ → Option ℤ
-signed negative None = None
-signed negative (Some n) =
-    if negative then (if leb n (2 ^ 63) then Some (neg_ℤ (pos n)) else None)
-    else (if leb n (2 ^ 63 - 1) then Some (pos n) else None)
-
-digits_signed : (negative : Bool) (bs : List ℕ) → digits_of negative bs ≡ signed negative (digits_value bs)
-unfolding digits_of digits_value
-digits_signed negative bs = go negative (is_nil bs || not (all_digits bs)) (ltb (value_from 0 bs) (2 ^ 64)) refl
+-- ---- a field
+pub field_read : {E : Type 0} (bs : List ℕ) (r : Result ℤ E) → get_or bs 0 0 ≢ 43 → ParsesSigned w64 10 bs r → result_ok r ≡ field bs
+unfolding field digits_of
+field_read [] (Ok x) n h = absurd (let q = h.0.0 in omega arith)
+field_read [] (Err x) n h = refl
+field_read (b ∷ bs) r n h = go (eqb b 45) refl
   where
-    go : (negative t u : Bool) → ltb (value_from 0 bs) (2 ^ 64) ≡ u
-        → (if t then None else if negative then (if leb (value_from 0 bs) (2 ^ 63) then Some (neg_ℤ (pos (value_from 0 bs))) else None) else (if leb (value_from 0 bs) (2 ^ 63 - 1) then Some (pos (value_from 0 bs)) else None))
-        ≡ signed negative (if t then None else if u then Some (value_from 0 bs) else None)
-    go negative true u e = refl
-    go negative false true e = refl
-    go true false false e = let h : 2 ^ 64 ≤ value_from 0 bs = ltb-false _ _ e in rw (lt-leb (value_from 0 bs) (2 ^ 63) (omega arith)) refl
-    go false false false e = let h : 2 ^ 64 ≤ value_from 0 bs = ltb-false _ _ e in rw (lt-leb (value_from 0 bs) (2 ^ 63 - 1) (omega arith)) refl
+    go : (t : Bool) → eqb b 45 ≡ t → result_ok r ≡ (if t then digits_of true bs else digits_of false (b ∷ bs))
+    go true e = digits_read bs (neg_ℤ (pos (value_from 0 bs))) (leb (value_from 0 bs) (2 ^ 63)) (λ f. le-leb _ _ f) (λ q. leb-true _ _ q) r (parse_signed_minus own w64 (b ∷ bs) r h (eqb-true b 45 e))
+    go false e =
+        digits_read (b ∷ bs) (pos (value_from 0 (b ∷ bs))) (leb (value_from 0 (b ∷ bs)) (2 ^ 63 - 1)) (λ f. le-leb _ _ (omega (arith, f))) (λ q. let k = leb-true _ _ q in omega (arith, k)) r
+        (parse_signed_plain own w64 (b ∷ bs) r h n (eqb-false b 45 e))
 
-field_minus : (bs ds : List ℕ) → pointwise eqb (take 1 bs) (45 ∷ []) ≡ true → ds ≡ drop 1 bs → signed true (digits_value ds) ≡ field bs
+-- one with a plus is no number
+pub plus_none : (bs : List ℕ) → true ≡ starts_with eqb bs (43 ∷ []) → None ≡ field bs
 unfolding field
-field_minus [] ds e q = absurd (let z : ◌≡◌ {A = ℕ} 0 1 = cc in omega arith)
-field_minus (b ∷ bs) ds e q = go (eqb b 45) e
+plus_none [] e = absurd (let y : ◌≡◌ {A = ℕ} 0 1 = cc in omega arith)
+plus_none (b ∷ bs) e = go (eqb 43 b) refl e
   where
-    go : (t : Bool) → (t && true) ≡ true → signed true (digits_value ds) ≡ (if t then digits_of true bs else digits_of false (b ∷ bs))
-    go true e = ap (λ (l : List ℕ). signed true (digits_value l)) q ∙ sym (digits_signed true bs)
-    go false e = absurd (let z : ◌≡◌ {A = ℕ} 0 1 = cc in omega arith)
+    go : (t : Bool) → eqb 43 b ≡ t → true ≡ (t && true) → None ≡ field (b ∷ bs)
+    go true q e = subst (λ (x : ℕ). None ≡ field (x ∷ bs)) (eqb-true 43 b q) (no_digits false (43 ∷ bs) refl)
+    go false q e = absurd (let y : ◌≡◌ {A = ℕ} 0 1 = cc in omega arith)
 
-field_plain : (bs : List ℕ) → pointwise eqb (take 1 bs) (45 ∷ []) ≡ false → signed false (digits_value bs) ≡ field bs
-unfolding field digits_value
-field_plain [] e = refl
-field_plain (b ∷ bs) e = go (eqb b 45) e
+pub no_plus : (bs : List ℕ) → false ≡ starts_with eqb bs (43 ∷ []) → get_or bs 0 0 ≢ 43
+no_plus [] e q = omega (arith, q)
+no_plus (b ∷ bs) e q = go (eqb 43 b) refl e
   where
-    go : (t : Bool) → (t && true) ≡ false → signed false (digits_value (b ∷ bs)) ≡ (if t then digits_of true bs else digits_of false (b ∷ bs))
-    go true e = absurd (let z : ◌≡◌ {A = ℕ} 0 1 = cc in omega arith)
-    go false e = sym (digits_signed false (b ∷ bs))
+    go : (t : Bool) → eqb 43 b ≡ t → false ≡ (t && true) → ⊥
+    go true p e = absurd (let y : ◌≡◌ {A = ℕ} 0 1 = cc in omega arith)
+    go false p e = eqb-false 43 b p (sym q)
 
--- by what the magnitude and the sum are
-module _ (bs : List ℕ) where
-  pub minus_none : {ds : List ℕ} → pointwise eqb (take 1 bs) (45 ∷ []) ≡ true → ds ≡ drop 1 bs → None ≡ digits_value ds → None ≡ field bs
-  minus_none {ds} e q d = ap (signed true) d ∙ field_minus bs ds e q
+-- bytes that are no text are no number
+digits_ascii : (ds : List ℕ) → all_digits ds ≡ true → IsAscii ds
+digits_ascii [] e i = omega arith
+digits_ascii (b ∷ ds) e zero = omega (arith, (tells.parts b ds e).0)
+digits_ascii (b ∷ ds) e (suc i) = digits_ascii ds (tells.parts b ds e).1 i
 
-  pub plain_none : pointwise eqb (take 1 bs) (45 ∷ []) ≡ false → None ≡ digits_value bs → None ≡ field bs
-  plain_none e d = ap (signed false) d ∙ field_plain bs e
+not_true : (t : Bool) → (t ≡ true → ⊥) → t ≡ false
+not_true true h = absurd (h refl)
+not_true false h = refl
 
-  module _ {n : ℕ} (r : Option ℤ) where
-    pub minus_some : {ds : List ℕ} → pointwise eqb (take 1 bs) (45 ∷ []) ≡ true → ds ≡ drop 1 bs → Some n ≡ digits_value ds
-        → SomeIff r (SFits w64 (pos 0 -ℤ pos n)) (pos 0 -ℤ pos n) → r ≡ field bs
-    minus_some {ds} e q d s = go r s (leb n (2 ^ 63)) refl ∙ ap (signed true) d ∙ field_minus bs ds e q
-      where
-        down : pos 0 -ℤ pos n ≡ neg_ℤ (pos n)
-        down = omega (zint, sub_pn (pos 0) (pos n), neg_pn (pos n))
+pub no_text : (bs : List ℕ) → ¬ (IsUtf8 bs) → None ≡ field bs
+unfolding field
+no_text [] h = refl
+no_text (b ∷ bs) h = go (eqb b 45) refl
+  where
+    after_minus : b ≡ 45 → IsAscii bs → IsAscii (b ∷ bs)
+    after_minus e a zero = omega (arith, e)
+    after_minus e a (suc i) = a i
 
-        fits : (n : ℕ) → n ≤ 2 ^ 63 → SFits w64 (neg_ℤ (pos n))
-        fits zero h = record { sfits = omega arith }
-        fits (suc n) h = record { sfits = omega arith }
-
-        most : (n : ℕ) → SFits w64 (neg_ℤ (pos n)) → n ≤ 2 ^ 63
-        most zero f = omega arith
-        most (suc n) f = omega (arith, f.sfits)
-
-        go : (r : Option ℤ) → SomeIff r (SFits w64 (pos 0 -ℤ pos n)) (pos 0 -ℤ pos n) → (t : Bool) → leb n (2 ^ 63) ≡ t → r ≡ (if t then Some (neg_ℤ (pos n)) else None)
-        go None s true p = absurd (s (rw down (fits n (leb-true _ _ p))))
-        go None s false p = refl
-        go (Some x) s true p = ap Some (s.1 ∙ down)
-        go (Some x) s false p = absurd (let f : SFits w64 (neg_ℤ (pos n)) = rw down at s.0 in omega (arith, most n f, leb-false _ _ p))
-
-    pub plain_some : pointwise eqb (take 1 bs) (45 ∷ []) ≡ false → Some n ≡ digits_value bs → SomeIff r (SFits w64 (pos 0 +ℤ pos n)) (pos 0 +ℤ pos n) → r ≡ field bs
-    plain_some e d s = go r s (leb n (2 ^ 63 - 1)) refl ∙ ap (signed false) d ∙ field_plain bs e
-      where
-        up : pos 0 +ℤ pos n ≡ pos n
-        up = omega (zint, add_pn (pos 0) (pos n))
-
-        go : (r : Option ℤ) → SomeIff r (SFits w64 (pos 0 +ℤ pos n)) (pos 0 +ℤ pos n) → (t : Bool) → leb n (2 ^ 63 - 1) ≡ t → r ≡ (if t then Some (pos n) else None)
-        go None s true p = let h = leb-true n (2 ^ 63 - 1) p in absurd (s (rw up (record { sfits = omega arith })))
-        go None s false p = refl
-        go (Some x) s true p = ap Some (s.1 ∙ up)
-        go (Some x) s false p = absurd (let f : SFits w64 (pos n) = rw up at s.0 in omega (arith, f.sfits, leb-false _ _ p))
+    go : (t : Bool) → eqb b 45 ≡ t → None ≡ (if t then digits_of true bs else digits_of false (b ∷ bs))
+    go true e = no_digits true bs (not_true _ (λ d. h (IsUtf8-from_ascii (b ∷ bs) (after_minus (eqb-true b 45 e) (digits_ascii bs d)))))
+    go false e = no_digits false (b ∷ bs) (not_true _ (λ d. h (IsUtf8-from_ascii (b ∷ bs) (digits_ascii (b ∷ bs) d))))

@@ -2,51 +2,49 @@
 use Rattle.std.specs.Prelude.{Option, Some, None, if◌then◌else◌}
 use mathlib.Core.Path.{◌≡◌, refl, sym, ◌∙◌, ap, subst}
 use mathlib.Core.Bool.{Bool, true, false}
-use mathlib.Core.List.{List, [], ◌∷◌, ◌++◌, append_assoc}
+use mathlib.Core.List.{List, [], ◌∷◌, ◌++◌, append-nil, append_assoc}
 use Prim.Native.Nat.{ℕ, suc, ◌+◌, ◌-◌, ◌<◌, ◌≤◌}
 use native.Mathlib.Omega.{arith}
 use native.Mathlib.Numerals.{add-one}
-use lib.ListN.{length, take, drop, get_or, set, length-set, length-append, drop_of_length-le}
+use lib.ListN.{length, take, drop, get_or, length-append, drop_of_length-le, take-append-drop}
 use lib.Dec.{leb}
 use lib.IntN.{ℤ, pos}
-use lib.Seq.{sets, sets-eq, length-sets, drop-cons, drop-drop}
+use lib.Seq.{sets-eq, length-sets, drop-cons, drop-drop, take-suc, take_all}
 use borrow.Author.Tests.{le-leb, lt-leb, leb-true, leb-false}
+use Rattle.text.specs.declared.line.Line.{Line}
+use Rattle.text.specs.Lines.{HasRoom, Puts}
 use Rattle.text.specs.Decimal.{signed_decimal}
 use Rattle.text.specs.Printing.{comma_numbers, line_of}
 use Rattle.text.specs.Putting.{Put, room_after}
 use Rattle.text.specs.Written.{Written}
 use Rattle.text.proofs.Stores.{sets_append, sets_front}
 
--- ---- one put behind another
-pub put_then : {xs ys : List ℕ} {at : ℕ} {l : List ℕ} {n : ℕ} {m : List ℕ} {r : ℕ} {k : List ℕ} → Put xs at l n m → Put ys n m r k → Put (xs ++ ys) at l r k
-put_then {xs} {ys} {at} {l} p q =
+-- ---- bytes put behind those that a line has
+put_kept : {x y : Line} {xs : List ℕ} → Puts x y xs → length y.out.now ≡ length x.out.now
+put_kept {x} {y} {xs} p = ap length p.put.list_after ∙ length-sets x.out.now x.end xs
+
+pub puts_then : {x y z : Line} {xs ys : List ℕ} → Puts x y xs → Puts y z ys → Puts x z (xs ++ ys)
+puts_then {x} {y} {z} {xs} {ys} p q =
     record {
-      list_after = q.list_after ∙ rw (p.ends, p.list_after) (sym (sets_append xs ys l at));
-      ends = omega (arith, p.ends, q.ends, length-append xs ys);
+      put = record {
+        list_after = q.put.list_after ∙ rw (p.put.ends, p.put.list_after) (sym (sets_append xs ys x.out.now x.end));
+        ends = omega (arith, p.put.ends, q.put.ends, length-append xs ys);
+      };
+      same = q.same ∙ p.same;
     }
 
-pub put_byte : (b at : ℕ) (l : List ℕ) → Put (b ∷ []) at l (at + 1) (set l at b)
-put_byte b at l = record { list_after = refl; ends = refl }
+-- the room for both is room for the second behind the first
+pub room_then : {x y : Line} {xs : List ℕ} (ys : List ℕ) → HasRoom x (xs ++ ys) → Puts x y xs → HasRoom y ys
+room_then {x} {y} {xs} ys h p = omega (arith, h, length-append xs ys, p.put.ends, put_kept p)
 
-pub put_kept : {xs : List ℕ} {at : ℕ} {l : List ℕ} {n : ℕ} {m : List ℕ} → Put xs at l n m → length m ≡ length l
-put_kept {xs} {at} {l} p = ap length p.list_after ∙ length-sets l at xs
-
--- a byte, and the others behind it
-module _ {xs ys : List ℕ} {b : ℕ} (e : xs ≡ b ∷ ys) (at : ℕ) (l : List ℕ) where
-  pub put_first : {r : ℕ} {k : List ℕ} → Put ys (at + 1) (set l at b) r k → Put xs at l r k
-  put_first {r} {k} p = subst (λ (w : List ℕ). Put w at l r k) (sym e) (put_then (put_byte b at l) p)
-
-pub put_as : {xs ys : List ℕ} {at : ℕ} {l : List ℕ} {r : ℕ} {k : List ℕ} → xs ≡ ys → Put ys at l r k → Put xs at l r k
-put_as {at = at} {l = l} {r = r} {k = k} e p = subst (λ (w : List ℕ). Put w at l r k) (sym e) p
-
--- ---- bytes in place of as many others
-pub put_part : {xs ys l : List ℕ} {at : ℕ} {k : List ℕ} → xs ≡ ys → k ≡ xs → at + length ys ≤ length l
-    → Put ys at l (at + length xs) (take at l ++ (k ++ drop (at + length xs - at) (drop at l)))
-put_part {xs} {ys} {l} {at} {k} e q h =
-    let m : at + length xs - at ≡ length ys = omega (arith, ap length e) in
+-- bytes in place of as many others
+pub put_part : {xs l : List ℕ} {at : ℕ} {k : List ℕ} → k ≡ xs → at + length xs ≤ length l
+    → Put xs at l (at + length xs) (take at l ++ (k ++ drop (at + length xs - at) (drop at l)))
+put_part {xs} {l} {at} {k} q h =
+    let m : at + length xs - at ≡ length xs = omega arith in
     record {
-      list_after = (λ i. take at l ++ ((q ∙ e) i ++ drop (m i) (drop at l))) ∙ ap (λ (r : List ℕ). take at l ++ (ys ++ r)) (drop-drop (length ys) at l) ∙ sym (append_assoc (take at l) ys (drop (at + length ys) l)) ∙ sym (sets-eq ys l at h);
-      ends = ap (λ (r : List ℕ). at + length r) e;
+      list_after = (λ i. take at l ++ (q i ++ drop (m i) (drop at l))) ∙ ap (λ (r : List ℕ). take at l ++ (xs ++ r)) (drop-drop (length xs) at l) ∙ sym (append_assoc (take at l) xs (drop (at + length xs) l)) ∙ sym (sets-eq xs l at h);
+      ends = refl;
     }
 
 -- ---- whether numbers fit
@@ -121,45 +119,38 @@ room_left_is room need {more} e = go (leb need room) refl e
     go false p q = absurd (let y : ◌≡◌ {A = ℕ} 0 1 = cc in omega arith)
 
 -- ---- the numbers one after another
-pub record PutTo (list : List ℤ) (out : List ℕ) (at : ℕ) (now : List ℕ) (next i : ℕ) : Type 0 where
-  pub goal : sets now next (comma_numbers (drop i list)) ≡ sets out at (comma_numbers list)
-  pub sum : next + length (comma_numbers (drop i list)) ≡ at + length (comma_numbers list)
-  pub within : i ≤ length list
-  pub same : length now ≡ length out
-
-pub puts_start : (list : List ℤ) (out : List ℕ) (at : ℕ) → PutTo list out at out at 0
-puts_start list out at = record { goal = refl; sum = refl; within = omega arith; same = refl }
-
-module _ {list : List ℤ} {out : List ℕ} {at : ℕ} {now : List ℕ} {next i : ℕ} (s : PutTo list out at now next i) where
-  pub puts_room : at + length (comma_numbers list) ≤ length out → i < length list → next + suc (length (signed_decimal (get_or list i (pos 0)))) ≤ length now
-  puts_room r h = omega (arith, comma_length list i h, s.sum, s.same)
-
-  pub puts_again : {r : ℕ} {k : List ℕ} → i < length list → Put (44 ∷ signed_decimal (get_or list i (pos 0))) next now r k → PutTo list out at k r (i + 1)
-  puts_again {r} {k} h p =
-      record {
-        goal =
-            ap (λ (l : List ℕ). sets l r (comma_numbers (drop (i + 1) list))) p.list_after
-            ∙ ap (λ (m : ℕ). sets (sets now next (44 ∷ signed_decimal (get_or list i (pos 0)))) m (comma_numbers (drop (i + 1) list))) p.ends
-            ∙ sym (sets_append (44 ∷ signed_decimal (get_or list i (pos 0))) (comma_numbers (drop (i + 1) list)) now next)
-            ∙ sym (ap (sets now next) (comma_drop list i h))
-            ∙ s.goal;
-        sum = omega (arith, comma_length list i h, s.sum, p.ends);
-        within = omega arith;
-        same = put_kept p ∙ s.same;
-      }
-
-  pub puts_end : length list ≤ i → Put (comma_numbers list) at out next now
-  puts_end h =
-      let e : comma_numbers (drop i list) ≡ [] = ap comma_numbers (drop_of_length-le list h) in
-      record { list_after = sym (ap (sets now next) e) ∙ s.goal; ends = omega (arith, s.sum, ap length e) }
-
--- ---- a line
 pub comma_append : (xs ys : List ℤ) → comma_numbers (xs ++ ys) ≡ comma_numbers xs ++ comma_numbers ys
 comma_append [] ys = refl
 comma_append (x ∷ xs) ys = ap (λ (l : List ℕ). 44 ∷ signed_decimal x ++ l) (comma_append xs ys) ∙ ap (λ (l : List ℕ). 44 ∷ l) (sym (append_assoc (signed_decimal x) (comma_numbers xs) (comma_numbers ys)))
 
-pub line_parts : (letter : ℕ) (xs ys : List ℤ) → ((((letter ∷ []) ++ comma_numbers xs) ++ comma_numbers ys) ++ 10 ∷ []) ≡ line_of letter (xs ++ ys)
-line_parts letter xs ys = ap (λ (l : List ℕ). letter ∷ l ++ 10 ∷ []) (sym (comma_append xs ys))
+pub record PutTo (list : List ℤ) (x y : Line) (i : ℕ) : Type 0 where
+  pub puts : Puts x y (comma_numbers (take i list))
+  pub within : i ≤ length list
+
+pub puts_start : (list : List ℤ) (x : Line) → PutTo list x x 0
+puts_start list x = record { puts = record { put = record { list_after = refl; ends = omega arith }; same = refl }; within = omega arith }
+
+comma_take : (list : List ℤ) (i : ℕ) → i < length list → comma_numbers (take (i + 1) list) ≡ comma_numbers (take i list) ++ 44 ∷ signed_decimal (get_or list i (pos 0))
+comma_take list i h =
+    ap (λ (k : ℕ). comma_numbers (take k list)) (add-one i) ∙ ap comma_numbers (take-suc list i (pos 0) h) ∙ comma_append (take i list) (get_or list i (pos 0) ∷ [])
+    ∙ ap (λ (l : List ℕ). comma_numbers (take i list) ++ 44 ∷ l) (append-nil (signed_decimal (get_or list i (pos 0))))
+
+module _ {list : List ℤ} {x y : Line} {i : ℕ} (s : PutTo list x y i) where
+  pub puts_room : HasRoom x (comma_numbers list) → i < length list → HasRoom y (44 ∷ signed_decimal (get_or list i (pos 0)))
+  puts_room r h =
+      let e : comma_numbers list ≡ comma_numbers (take i list) ++ comma_numbers (drop i list) = ap comma_numbers (sym (take-append-drop i list)) ∙ comma_append (take i list) (drop i list) in
+      let q : HasRoom y (comma_numbers (drop i list)) = room_then (comma_numbers (drop i list)) (subst (HasRoom x) e r) s.puts in
+      omega (arith, comma_length list i h, q)
+
+  pub puts_again : {z : Line} → i < length list → Puts y z (44 ∷ signed_decimal (get_or list i (pos 0))) → PutTo list x z (i + 1)
+  puts_again {z} h p = record { puts = subst (Puts x z) (sym (comma_take list i h)) (puts_then s.puts p); within = omega arith }
+
+  pub puts_end : length list ≤ i → Puts x y (comma_numbers list)
+  puts_end h = subst (λ (l : List ℤ). Puts x y (comma_numbers l)) (take_all i list h) s.puts
+
+-- ---- a line
+line_parts : (letter : ℕ) (xs ys : List ℤ) → line_of letter (xs ++ ys) ≡ (letter ∷ []) ++ (comma_numbers xs ++ (comma_numbers ys ++ 10 ∷ []))
+line_parts letter xs ys = ap (λ (l : List ℕ). letter ∷ l ++ 10 ∷ []) (comma_append xs ys) ∙ ap (λ (l : List ℕ). letter ∷ l) (append_assoc (comma_numbers xs) (comma_numbers ys) (10 ∷ []))
 
 pub line_length : (letter : ℕ) (xs ys : List ℤ) → length (line_of letter (xs ++ ys)) ≡ length (comma_numbers xs) + length (comma_numbers ys) + 2
 line_length letter xs ys =
@@ -174,7 +165,7 @@ written_all {line} {out} h p =
     record {
       count = ap Some (p.ends ∙ n) ∙ rw (le-leb (length line) (length out) h) refl;
       list_after = p.list_after ∙ sets_front line out h ∙ rw (le-leb (length line) (length out) h) refl;
-      within = omega (arith, p.ends, put_kept p);
+      within = omega (arith, p.ends, ap length p.list_after, length-sets out 0 line);
     }
 
 -- a path's line, by its number and its count as they came
@@ -183,16 +174,24 @@ pub written_head : (letter : ℕ) {x y a b : ℤ} (zs : List ℤ) {out : List �
 written_head letter {x} {y} {a} {b} zs {out} {r} {after} p q w =
     subst (λ (b : ℤ). Written (line_of letter (a ∷ b ∷ zs)) out r after) q (subst (λ (a : ℤ). Written (line_of letter (a ∷ y ∷ zs)) out r after) p w)
 
-module _ (letter : ℕ) (head tail : List ℤ) (out : List ℕ) {at : ℕ} {m : List ℕ} (p : Put (comma_numbers head) 1 (set out 0 letter) at m) where
-  pub tail_room : length (line_of letter (head ++ tail)) ≤ length out → at + length (comma_numbers tail) ≤ length m
-  tail_room h = omega (arith, line_length letter head tail, p.ends, put_kept p, length-set out 0 letter)
+module _ (letter : ℕ) (head tail : List ℤ) {x a : Line} (p : Puts x a (letter ∷ [])) (h : HasRoom x (line_of letter (head ++ tail))) where
+  behind_letter : HasRoom a (comma_numbers head ++ (comma_numbers tail ++ 10 ∷ []))
+  behind_letter = room_then (comma_numbers head ++ (comma_numbers tail ++ 10 ∷ [])) (subst (HasRoom x) (line_parts letter head tail) h) p
 
-  module _ {end : ℕ} {k : List ℕ} (q : Put (comma_numbers tail) at m end k) where
-    pub feed_room : length (line_of letter (head ++ tail)) ≤ length out → end < length k
-    feed_room h = omega (arith, line_length letter head tail, p.ends, q.ends, put_kept p, put_kept q, length-set out 0 letter)
+  pub head_room : HasRoom a (comma_numbers head)
+  head_room = omega (arith, behind_letter, length-append (comma_numbers head) (comma_numbers tail ++ 10 ∷ []))
 
-    pub feed_within : length (line_of letter (head ++ tail)) ≤ length out → end < length out
-    feed_within h = omega (arith, line_length letter head tail, p.ends, q.ends)
+  module _ {b : Line} (q : Puts a b (comma_numbers head)) where
+    pub tail_room : HasRoom b (comma_numbers tail)
+    tail_room = omega (arith, room_then (comma_numbers tail ++ 10 ∷ []) behind_letter q, length-append (comma_numbers tail) (10 ∷ []))
 
-    pub line_put : Put (line_of letter (head ++ tail)) 0 out (end + 1) (set k end 10)
-    line_put = put_as (sym (line_parts letter head tail)) (put_then (put_then (put_then (put_byte letter 0 out) p) q) (put_byte 10 end k))
+    module _ {c : Line} (r : Puts b c (comma_numbers tail)) where
+      pub feed_room : HasRoom c (10 ∷ [])
+      feed_room = room_then (10 ∷ []) (room_then (comma_numbers tail ++ 10 ∷ []) behind_letter q) r
+
+      pub line_put : {d : Line} → Puts c d (10 ∷ []) → Puts x d (line_of letter (head ++ tail))
+      line_put {d} s = subst (Puts x d) (sym (line_parts letter head tail)) (puts_then p (puts_then q (puts_then r s)))
+
+-- the caller's list is the line's
+pub line_ends : {x y : Line} {xs after : List ℕ} → Puts x y xs → after ≡ y.out.now → Put xs x.end x.out.now y.end after
+line_ends {x} {y} {xs} p e = subst (Put xs x.end x.out.now y.end) (sym e) p.put

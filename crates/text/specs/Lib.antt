@@ -6,5 +6,6 @@ pub mod Asked
 pub mod Written
 pub mod Scanning
 pub mod Putting
+pub mod Lines
 pub mod Examples
 pub mod Same

@@ -1,12 +1,8 @@
 -- What the private functions that read a line answer, step by step. The definitions that the public ones cite are in Decimal and Reading.
-use Rattle.std.specs.Prelude.{Bool, List, [], ◌∷◌, ℕ, ◌+◌, length, eqb, ltb, not, ◌||◌, ◌^◌, ℤ, Option, Some, None, if◌then◌else◌}
-use Rattle.plane.specs.Basics.{Try, refuse, ok, is_nil}
-use Rattle.text.specs.Decimal.{all_digits, value_from, field}
+use Rattle.std.specs.Prelude.{Bool, List, [], ◌∷◌, ℕ, ◌+◌, length, eqb, ℤ, Option, Some, None, if◌then◌else◌}
+use Rattle.plane.specs.Basics.{Try, refuse, ok}
+use Rattle.text.specs.Decimal.{field}
 use Rattle.text.specs.Reading.{Request, unreadable, path, rectangle_of, fields, numbers}
-
--- the number that one digit or more stand for, where 64 bits hold it
-unfoldable pub digits_value : List ℕ → Option ℕ
-digits_value bs = if is_nil bs || not (all_digits bs) then None else if ltb (value_from 0 bs) (2 ^ 64) then Some (value_from 0 bs) else None
 
 -- how many numbers there are behind n of them, where all fields are numbers
 abbrev pub counted : ℕ → Try (List ℤ) → Option ℕ

@@ -8,7 +8,6 @@ use crate::number::number;
 
 // How many numbers the fields are, where all are numbers.
 fn count_numbers(bytes: &[u8]) -> Option<usize>
-    requires { length bytes.now ≤ 4096 }
     ensures { result ≡ counted 0 (numbers (fields bytes.now)) }
 {
     let mut count = 0;
@@ -19,24 +18,22 @@ fn count_numbers(bytes: &[u8]) -> Option<usize>
     Some(count)
 }
 
-// The numbers of the fields, up to one that is none, as many as the list can hold.
+// The numbers of the fields, up to one that is none, as many as the list can hold. The entries are gone over alone: behind a `zip` of `iter_mut`
+// no proof knows what they hold.
 fn store_numbers(bytes: &[u8], list: &mut [i64])
     ensures { list.new ≡ sets list.old 0 (leading (fields bytes.now)) }
 {
-    for (i, field) in bytes.split(|b| *b == b',').enumerate() {
-        let Some(z) = number(field) else {
+    let mut fields = bytes.split(|b| *b == b',');
+    for slot in list.iter_mut() {
+        let Some(z) = fields.next().and_then(number) else {
             return;
         };
-        if list.len() <= i {
-            return;
-        }
-        list[i] = z;
+        *slot = z;
     }
 }
 
 // How many numbers stand behind the letter.
 pub(crate) fn count_behind(bytes: &[u8]) -> Option<usize>
-    requires { length bytes.now ≤ 4096 }
     ensures { result ≡ counted 0 (behind bytes.now) }
 {
     if bytes.is_empty() {

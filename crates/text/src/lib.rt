@@ -4,6 +4,7 @@
 pub mod comparing;
 mod decimal;
 mod fields;
+mod line;
 mod number;
 mod numbers;
 pub mod reading;

@@ -1,31 +1,13 @@
 // A field of a line as a number: an optional minus and digits.
 ghost use Rattle.std.specs.Prelude.{◌≡◌};
 ghost use Rattle.text.specs.Decimal.{field};
-ghost use Rattle.text.specs.Scanning.{digits_value};
 
-// The number that digits stand for, where 64 bits hold it.
-fn magnitude(digits: &[u8]) -> Option<u64>
-    ensures { result ≡ digits_value digits.now }
-{
-    if digits.is_empty() {
-        return None;
-    }
-    let mut value: u64 = 0;
-    for b in digits {
-        if !b.is_ascii_digit() {
-            return None;
-        }
-        value = value.checked_mul(10)?.checked_add(u64::from(*b - b'0'))?;
-    }
-    Some(value)
-}
-
-// The field's number, where it is one that 64 signed bits hold.
+// The field's number, where it is one that 64 signed bits hold. `parse` takes a plus as well, which no field has.
 pub(crate) fn number(bytes: &[u8]) -> Option<i64>
     ensures { result ≡ field bytes.now }
 {
-    match bytes.strip_prefix(b"-") {
-        Some(digits) => 0i64.checked_sub_unsigned(magnitude(digits)?),
-        None => 0i64.checked_add_unsigned(magnitude(bytes)?),
+    if bytes.starts_with(b"+") {
+        return None;
     }
+    str::from_utf8(bytes).ok()?.parse().ok()
 }

@@ -18,7 +18,6 @@ pub enum Request {
 
 // Of the bytes behind the letter.
 fn read_rectangle(bytes: &[u8]) -> Option<Request>
-    requires { length bytes.now ≤ 4096 }
     ensures { told result ≡ tells (rectangle_asked (behind bytes.now)) }
 {
     let count = count_behind(bytes)?;
@@ -38,7 +37,6 @@ fn read_rectangle(bytes: &[u8]) -> Option<Request>
 
 // Of the bytes behind the letter.
 fn read_path(closed: bool, bytes: &[u8], list: &mut [i64]) -> Option<Request>
-    requires { length bytes.now ≤ 4096 }
     ensures { Asks (path_asked closed (behind bytes.now)) list.old result list.new }
 {
     let count = count_behind(bytes)?;

@@ -1,10 +1,12 @@
-// The lines that the program prints, each written to the front of a lent list of bytes.
+// The lines that the program prints, each written to the front of a lent list of bytes. A line is measured before it is written, since one that
+// does not fit leaves the list as it came: by `Display` that would be two sinks of our own, and a `fmt::Result` from each write that cannot fail.
 ghost use Rattle.std.specs.Prelude.{◌≡◌, [], ◌∷◌, ◌++◌, ◌≤◌, length};
 ghost use Rattle.text.specs.Printing.{line_of, rectangle_line};
 ghost use Rattle.text.specs.Putting.{Put};
 ghost use Rattle.text.specs.Written.{Written, coordinates_line};
 
-use crate::numbers::{put_numbers, room_after};
+use crate::line::Line;
+use crate::numbers::room_after;
 use plane::rect::Rect64;
 
 // A letter, the numbers of two lists and a line feed, into a list that can hold them.
@@ -12,11 +14,12 @@ fn put_line(letter: u8, head: &[i64], tail: &[i64], out: &mut [u8]) -> usize
     requires { length (line_of letter (head.now ++ tail.now)) ≤ length out.old }
     ensures { Put (line_of letter (head.now ++ tail.now)) 0 out.old result out.new }
 {
-    out[0] = letter;
-    let at = put_numbers(head, out, 1);
-    let end = put_numbers(tail, out, at);
-    out[end] = b'\n';
-    end + 1
+    let mut line = Line { out, end: 0 };
+    line.put(&[letter]);
+    line.put_numbers(head);
+    line.put_numbers(tail);
+    line.put(b"\n");
+    line.end
 }
 
 // A letter, the numbers of two lists, a line feed. Answers how many bytes the line has; where `out` cannot hold it, None, and `out` stays as it came.
@@ -38,7 +41,7 @@ pub fn write_rectangle(rect: Rect64, out: &mut [u8]) -> Option<usize>
     write_line(b'R', &head, &tail, out)
 }
 
-// `X`, the line and the refusal's number.
+// `X`, the line and the refusal's number. Any number is taken, as a `Refusal` would not be: the C functions answer numbers too.
 pub fn write_refusal(line: i64, number: i64, out: &mut [u8]) -> Option<usize>
     ensures { Written (line_of 88 (line ∷ number ∷ [])) out.old result out.new }
 {

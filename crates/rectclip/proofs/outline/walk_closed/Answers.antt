@@ -3,4 +3,4 @@ use Rattle.rectclip.proofs.Opening.{walk_fresh}
 use Rattle.rectclip.proofs.outline.walk_closed.Goals as goal
 
 pub walk_closed-requires : goal.walk_closed-requires
-walk_closed-requires c = (record { even = c.requires.paired.even; bound = c.requires.paired.bound }, rw c.new.ensures (walk_fresh _ _))
+walk_closed-requires c = (c.requires.bounded, rw c.new.ensures (walk_fresh _ _))

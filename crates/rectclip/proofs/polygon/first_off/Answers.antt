@@ -1,43 +1,28 @@
--- `first_off` meets its contract: it counts as the definition does. Assumes nothing.
-use mathlib.Core.Path.{◌≡◌, sym, ap, ◌∙◌}
-use mathlib.Core.Bool.{Bool, true, false}
-use Prim.Native.Nat.{ℕ, ◌/◌, ◌<◌}
-use borrow.Author.Rules.{rules}
+-- `first_off` meets its contract: what the search finds is where the definition's ends. Assumes nothing.
+use Rattle.std.proofs.Common.{rules, ◌≡◌, ◌/◌, ◌-◌, length, ℕ, subst, refl, ap, ◌∙◌, Bool}
+use Rattle.std.specs.Iterator.Runs.{ItemsCountUp}
+use Rattle.std.specs.Prelude.{not}
+use Rattle.std.proofs.iter.runs.Sources.{range_runs}
+use borrow.Author.Tests.{not-true, not-false}
 use native.Mathlib.Omega.{arith}
-use lib.IntN.{ℤ}
-use lib.ListN.{length}
-use mir.Syntax.{w64}
-use mir.Val.{SFits}
-use Rattle.integers.specs.Tests.{eq_z, eq_plain, ne_plain}
-use Rattle.plane.specs.declared.point.Point64.{Point64}
+use Rattle.integers.specs.Tests.{eq_z}
+use Rattle.plane.specs.Points.{points_of, pt_at}
+use Rattle.plane.specs.Polygon.{first_off}
+use Rattle.rectclip.proofs.Positions.{FirstPassing, found_passing, first_or, first_within}
 use Rattle.rectclip.proofs.Scans.{first_turn, first_stop, first_end}
 use Rattle.rectclip.proofs.polygon.first_off.Goals as goal
 
-at_height : {p q : Point64} (y : ℤ) (t : Bool) → p ≡ q → eq_z p.y y ≡ t → eq_z q.y y ≡ t
-at_height y t e f = sym (ap (λ (p : Point64). eq_z p.y y) e) ∙ f
-
-pub returns-then-p-pt : goal.returns-then-p-pt
-returns-then-p-pt c =
-    let path = c.args.polygon.now in
-    let i = c.loop-i.i in
-    let known : SFits w64 c.point_at-p.result.y × SFits w64 c.args.pt.y = search rules in
-    let (f, g) = known in
-    let h : i < length path / 2 = omega arith in
-    let e = at_height c.args.pt.y false c.point_at-p.ensures (ne_plain _ _ f g c.if-p-pt.true) in
-    record { is = sym (first_stop c.args.pt path i h e) ∙ c.loop-i.invariant; within = omega arith }
-
-pub loop-i-preserved : goal.loop-i-preserved
-loop-i-preserved c =
-    let path = c.args.polygon.now in
-    let i = c.loop-i.i in
-    let known : SFits w64 c.point_at-p.result.y × SFits w64 c.args.pt.y = search rules in
-    let (f, g) = known in
-    let h : i < length path / 2 = omega arith in
-    let e = at_height c.args.pt.y true c.point_at-p.ensures (eq_plain _ _ f g c.if-p-pt.false) in
-    sym (first_turn c.args.pt path i h e) ∙ c.loop-i.invariant
-
 pub returns : goal.returns
 returns c =
-    let n : ℕ = length c.args.polygon.now / 2 in
-    let e : c.loop-i.i ≡ n = omega arith in
-    record { is = sym e ∙ (sym (first_end c.args.pt c.args.polygon.now c.loop-i.i (omega arith)) ∙ c.loop-i.invariant); within = omega arith }
+    let path = c.args.polygon.now in
+    let n : ℕ = length path / 2 in
+    let (p, source, ran) = c.find.ensures.runs in
+    let up : ItemsCountUp p 0 n = subst (λ s. ItemsCountUp p s.start s.end) source (range_runs p p.seen) in
+    let t : ℕ → Bool = λ k. not (eq_z (pt_at (points_of path) k).y c.args.pt.y) in
+    let run : ℕ → ℕ = λ i. first_off c.args.pt (points_of path) (n - i) i in
+    let whole : n - 0 ≡ n = omega arith in
+    let first : FirstPassing t 0 n c.find.result = found_passing p _ _ t (λ a r f q. search rules) (λ x r q. let s = q.shows in let h = q.called in search rules) 0 n up c.find.result ran in
+    record {
+      is = c.unwrap_or.ensures ∙ first_or t 0 n (omega arith) run (λ i h l e. first_turn c.args.pt path i l (not-false _ e)) (λ i h l e. first_stop c.args.pt path i l (not-true _ e)) (first_end c.args.pt path n refl) c.find.result first ∙ ap (λ (k : ℕ). first_off c.args.pt (points_of path) k 0) whole;
+      within = rw c.unwrap_or.ensures (first_within t 0 n (omega arith) c.find.result first);
+    }

@@ -4,4 +4,4 @@ use Rattle.rectclip.proofs.ring.link_nodes.Goals as goal
 
 pub loop-i-preserved : goal.loop-i-preserved
 loop-i-preserved c =
-    linking_again c.loop-i.invariant c.loop-i-test.true c.after.result c.after.ensures c.put_node.ensures
+    linking_again c.loop-i.invariant c.loop-i-test.true c.put_node.ensures

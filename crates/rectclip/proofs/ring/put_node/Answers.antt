@@ -4,4 +4,4 @@ use Rattle.rectclip.proofs.ring.put_node.Goals as goal
 
 pub returns : goal.returns
 returns c =
-    rw (c.store-4.ensures, c.store-3.ensures, c.store-2.ensures, c.store.ensures) (placed_node c.args.work.now c.args.i c.args.next c.args.prev c.requires.0)
+    rw (c.put-4.ensures, c.put-3.ensures, c.put-2.ensures, c.put.ensures) (placed_node c.args.work.now c.args.i c.args.next c.args.prev c.requires.0)

@@ -1,27 +1,19 @@
 -- `text::writing::put_line` meets its contract. Assumes nothing.
 use native.Mathlib.Omega.{arith}
-use lib.ListN.{length-set}
-use Rattle.text.proofs.Puts.{line_length, tail_room, feed_room, feed_within, line_put}
 use borrow.Author.Rules.{rules}
+use Rattle.text.proofs.Puts.{head_room, tail_room, feed_room, line_put, line_ends}
 use Rattle.text.proofs.writing.put_line.Goals as goal
 
-pub put_numbers-at-requires : goal.put_numbers-at-requires
-put_numbers-at-requires c =
-    omega (arith, c.requires, line_length c.args.letter c.args.head.now c.args.tail.now, length-set c.args.out.now 0 c.args.letter)
+pub put_numbers-requires : goal.put_numbers-requires
+put_numbers-requires c = head_room c.args.letter c.args.head.now c.args.tail.now c.put.ensures (omega (arith, c.requires))
 
-pub put_numbers-end-requires : goal.put_numbers-end-requires
-put_numbers-end-requires c =
-    tail_room c.args.letter c.args.head.now c.args.tail.now c.args.out.now c.put_numbers-at.ensures c.requires
+pub put_numbers-requires-2 : goal.put_numbers-requires-2
+put_numbers-requires-2 c = tail_room c.args.letter c.args.head.now c.args.tail.now c.put.ensures (omega (arith, c.requires)) c.put_numbers.ensures
 
-pub bounds-out-end : goal.bounds-out-end
-bounds-out-end c =
-    feed_room c.args.letter c.args.head.now c.args.tail.now c.args.out.now c.put_numbers-at.ensures c.put_numbers-end.ensures c.requires
-
-pub overflow_add-result : goal.overflow_add-result
-overflow_add-result c =
-    let r = feed_within c.args.letter c.args.head.now c.args.tail.now c.args.out.now c.put_numbers-at.ensures c.put_numbers-end.ensures c.requires in
-    search rules
+pub put-requires-2 : goal.put-requires-2
+put-requires-2 c = feed_room c.args.letter c.args.head.now c.args.tail.now c.put.ensures (omega (arith, c.requires)) c.put_numbers.ensures c.put_numbers-2.ensures
 
 pub returns : goal.returns
 returns c =
-    line_put c.args.letter c.args.head.now c.args.tail.now c.args.out.now c.put_numbers-at.ensures c.put_numbers-end.ensures
+    let p = line_put c.args.letter c.args.head.now c.args.tail.now c.put.ensures (omega (arith, c.requires)) c.put_numbers.ensures c.put_numbers-2.ensures c.put-2.ensures in
+    line_ends p (search rules)

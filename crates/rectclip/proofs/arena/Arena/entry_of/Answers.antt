@@ -6,9 +6,9 @@ use Rattle.rectclip.proofs.Stores.{some_in}
 use Rattle.rectclip.proofs.arena.Arena.entry_of.Goals as goal
 
 pub returns-clause-is : goal.returns-clause-is
-returns-clause-is c = c.unmarked.ensures.is ∙ c.get.ensures ∙ entry_at c.args.self.now c.args.e c.args.j c.requires.0 c.requires.1
+returns-clause-is c = c.unmarked.ensures.is ∙ c.get.ensures ∙ entry_at c.args.self.now c.args.list.idx c.args.j c.args.list.within c.requires
 
 pub returns-clause-within : goal.returns-clause-within
 returns-clause-within c =
-    some_in _ c.args.self.now.sizes.nodes _ (c.unmarked.ensures.is ∙ c.get.ensures ∙ entry_at c.args.self.now c.args.e c.args.j c.requires.0 c.requires.1) c.unmarked.ensures.some
-    (c.args.self.now.holds.valid.entry_in c.args.e c.args.j c.requires.0 (omega (arith, list_long c.args.self.now c.args.e c.requires.0)))
+    some_in _ c.args.self.now.sizes.nodes _ (c.unmarked.ensures.is ∙ c.get.ensures ∙ entry_at c.args.self.now c.args.list.idx c.args.j c.args.list.within c.requires) c.unmarked.ensures.some
+    (c.args.self.now.holds.valid.entry_in c.args.list.idx c.args.j c.args.list.within (omega (arith, list_long c.args.self.now c.args.list.idx c.args.list.within)))

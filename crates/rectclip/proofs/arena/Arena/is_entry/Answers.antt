@@ -5,4 +5,4 @@ use Rattle.rectclip.proofs.Changes.{entry_at}
 use Rattle.rectclip.proofs.arena.Arena.is_entry.Goals as goal
 
 pub returns : goal.returns
-returns c = ap (λ x. eqb x c.args.op) (c.get.ensures ∙ entry_at c.args.self.now c.args.e c.args.j c.requires.0 c.requires.1)
+returns c = ap (λ x. eqb x c.args.op) (c.get.ensures ∙ entry_at c.args.self.now c.args.list.idx c.args.j c.args.list.within c.requires)

@@ -6,8 +6,8 @@ use Rattle.rectclip.proofs.arena.Arena.push_result.Goals as goal
 
 pub invariant_of-self : goal.invariant_of-self
 unfolding one_result_more
-invariant_of-self c = record { drawn = c.args.self.now.drawn; holds = (pushed_result c.args.self.now c.args.v c.requires.0 c.requires.1 c.store.ensures).holds }
+invariant_of-self c = record { drawn = c.args.self.now.drawn; holds = (pushed_result c.args.self.now c.args.v c.requires.0 c.requires.1 c.put.ensures).holds }
 
 pub returns : goal.returns
 unfolding one_result_more
-returns c = grows_by (pushed_result c.args.self.now c.args.v c.requires.0 c.requires.1 c.store.ensures) refl refl refl
+returns c = grows_by (pushed_result c.args.self.now c.args.v c.requires.0 c.requires.1 c.put.ensures) refl refl refl

@@ -6,7 +6,7 @@ use Rattle.rectclip.proofs.Stores.{leaves_by}
 use Rattle.rectclip.proofs.arena.Arena.set_new_owner.Goals as goal
 
 pub loop-pass-init : goal.loop-pass-init
-loop-pass-init c = owning_start c.requires.1 c.requires.0 c.store.ensures c.get-op2.ensures
+loop-pass-init c = owning_start c.requires.1 c.requires.0 c.put.ensures c.get-op2.ensures
 
 pub invariant_of-self : goal.invariant_of-self
 invariant_of-self c = record { drawn = c.args.self.now.drawn; holds = c.loop-pass.invariant.holds }
@@ -19,7 +19,7 @@ returns-then-op2-op c = leaves_by (owning_stop c.loop-pass.invariant c.if-op2-op
 
 pub loop-pass-preserved : goal.loop-pass-preserved
 loop-pass-preserved c =
-    owning_again c.requires.1 c.loop-pass.invariant (omega arith) c.if-op2-op.false c.store-in-loop-pass.ensures c.get-op2-in-loop-pass.ensures
+    owning_again c.requires.1 c.loop-pass.invariant (omega arith) c.if-op2-op.false c.put-in-loop-pass.ensures c.get-op2-in-loop-pass.ensures
 
 pub returns : goal.returns
 returns c = leaves_by (owning_out c.loop-pass.invariant (omega arith)) refl refl refl

@@ -1,16 +1,12 @@
 -- `RectClipLines64::execute` meets its promise: a call that is refused early, and one that is drawn. Assumes nothing.
+use mathlib.Core.Bool.{false}
+use mathlib.Core.Path.{refl}
+use Rattle.std.proofs.Common.{rules}
 use Rattle.reference.specs.Entry.{Lent}
 use Rattle.rectclip.specs.Promises.{lent}
-use Rattle.rectclip.proofs.Calling.{refused_call, drawable, drawn_call}
-use mathlib.Core.Bool.{false}
+use Rattle.rectclip.proofs.Calling.{refused_call, admitted, allowance, drawn_call}
 use Rattle.rectclip.proofs.Walking.{thrown}
 use Rattle.rectclip.proofs.lines.RectClipLines64.execute.Goals as goal
-
-pub draw_lines-answer-requires : goal.draw_lines-answer-requires
-draw_lines-answer-requires c =
-    let before : Lent =
-    lent c.args.coordinates.now c.args.lengths.now c.args.store.now c.args.work.now in
-    drawable 0 c.args.self.rect c.args.path.now before c.admit.result _ c.in_ok-bounds.was c.admit.ensures
 
 pub returns-in_err-bounds : goal.returns-in_err-bounds
 returns-in_err-bounds c =
@@ -19,10 +15,17 @@ returns-in_err-bounds c =
     rw (thrown c.from_residual.result c.from_residual.ensures)
     (refused_call false 0 c.args.self.rect c.args.path.now before c.admit.result c.admit.ensures _ c.in_err-bounds.was)
 
+pub invariant_of-call : goal.invariant_of-call
+invariant_of-call c =
+    let before : Lent =
+    lent c.args.coordinates.now c.args.lengths.now c.args.store.now c.args.work.now in
+    record {
+      admitted = admitted false 0 c.args.self.rect c.args.path.now before c.admit.result _ c.in_ok-bounds.was c.admit.ensures;
+      room = allowance false 0 c.args.self.rect c.args.path.now before c.admit.result _ c.in_ok-bounds.was c.admit.ensures;
+    }
+
 pub returns : goal.returns
 returns c =
     let before : Lent =
     lent c.args.coordinates.now c.args.lengths.now c.args.store.now c.args.work.now in
-    let store = c.draw_lines-answer.new.store in
-    let work = c.draw_lines-answer.new.work in
-    drawn_call false 0 c.args.self.rect c.args.path.now before c.admit.result c.admit.ensures _ c.in_ok-bounds.was c.draw_lines-answer.ensures store work c.draw_lines-answer.auto.store c.draw_lines-answer.auto.work c.clear_store.ensures c.clear_work.ensures
+    drawn_call false 0 c.args.self.rect c.args.path.now before c.admit.result c.admit.ensures _ c.in_ok-bounds.was c.draw_lines-answer.ensures.gives c.new-output.ensures.unfilled c.new-output.ensures.lists.0 c.new-output.ensures.lists.1 refl refl c.draw_lines-answer.ensures.same (search rules) (search rules) (search rules) (search rules)

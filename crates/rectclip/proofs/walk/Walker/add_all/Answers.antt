@@ -6,7 +6,7 @@ use Rattle.rectclip.proofs.Walking.{thrown}
 use Rattle.rectclip.proofs.walk.Walker.add_all.Goals as goal
 
 pub add-requires : goal.add-requires
-add-requires c = rw c.point_at.ensures (reached (path_limited c.args.path.now c.requires c.loop-i.i))
+add-requires c = rw c.point_at.ensures (reached (path_limited c.loop-i.self.path.now c.loop-i.self.sheet.points c.loop-i.i))
 
 pub returns-in_err-add : goal.returns-in_err-add
 returns-in_err-add c = rw (thrown c.from_residual.result c.from_residual.ensures) (adding_lost c.loop-i.invariant c.loop-i-test.true c.point_at.ensures c.add.ensures c.in_err-add.was)

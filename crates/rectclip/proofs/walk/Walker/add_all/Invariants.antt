@@ -3,4 +3,4 @@ use Rattle.rectclip.proofs.Turning.{Adding}
 use Rattle.rectclip.proofs.walk.Walker.add_all.Given as goal
 
 abbrev pub invariant-loop-i : goal.invariant-loop-i
-invariant-loop-i l = Adding l.path l.initial.self l.self l.i
+invariant-loop-i l = Adding l.initial.self l.self l.i

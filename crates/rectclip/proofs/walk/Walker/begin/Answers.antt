@@ -10,10 +10,10 @@ pub invariant_of-self : goal.invariant_of-self
 invariant_of-self c = rw c.put_point.ensures (record { sheet = c.args.self.now.sheet; fits = fits_put c.args.self.now.fits c.if-self-n.false c.args.pt c.requires })
 
 pub invariant_of-self-2 : goal.invariant_of-self-2
-invariant_of-self-2 c = rw (c.put_point.ensures, c.store.ensures) (record { sheet = c.args.self.now.sheet; fits = fits_started c.args.self.now.fits c.if-self-n.false c.args.pt c.requires })
+invariant_of-self-2 c = rw (c.put_point.ensures, c.put.ensures) (record { sheet = c.args.self.now.sheet; fits = fits_started c.args.self.now.fits c.if-self-n.false c.args.pt c.requires })
 
 pub returns : goal.returns
 returns c = record {
-  same = record { rect = refl; path = refl; store = refl; work = refl; store_length = c.put_point.auto.list; work_length = c.store.auto.work };
-  is = rw (c.put_point.ensures, c.store.ensures) (begin_is c.args.self.now c.args.pt c.if-self-n.false c.requires);
+  same = record { rect = refl; path = refl; store = refl; work = refl; store_length = c.put_point.auto.list; work_length = c.put.auto.work };
+  is = rw (c.put_point.ensures, c.put.ensures) (begin_is c.args.self.now c.args.pt c.if-self-n.false c.requires);
 }

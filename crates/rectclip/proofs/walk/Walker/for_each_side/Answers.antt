@@ -7,7 +7,7 @@ use Rattle.rectclip.proofs.Walking.{thrown}
 use Rattle.rectclip.proofs.walk.Walker.for_each_side.Goals as goal
 
 pub loop-init : goal.loop-init
-loop-init g c = λ one run D C. rounding_start run c.args.self.now c.args.from
+loop-init g c = λ one run D C. rounding_start run c.args.self.now c.args.way.from
 
 pub returns-in_err-step : goal.returns-in_err-step
 returns-in_err-step g c = λ one run D C.
@@ -17,12 +17,12 @@ returns-in_err-step g c = λ one run D C.
 pub returns-then-eq : goal.returns-then-eq
 returns-then-eq g c = λ one run D C.
     let I = c.loop.invariant one run D C in
-    rounding_met D I c.loop-test.true (since I.same (C _ _ _ _ I.same c.step.ensures)) c.in_ok-step.was c.get_adjacent_location-p.ensures (c.eq.ensures ∙ same_location_is c.get_adjacent_location-p.result c.args.loc) c.if-eq.true
+    rounding_met D I c.loop-test.true (since I.same (C _ _ _ _ I.same c.step.ensures)) c.in_ok-step.was c.get_adjacent_location-p.ensures (c.eq.ensures ∙ same_location_is c.get_adjacent_location-p.result c.args.way.to) c.if-eq.true
 
 pub loop-preserved : goal.loop-preserved
 loop-preserved g c = λ one run D C.
     let I = c.loop.invariant one run D C in
-    rounding_on D I c.loop-test.true (since I.same (C _ _ _ _ I.same c.step.ensures)) c.in_ok-step.was c.get_adjacent_location-p.ensures (c.eq.ensures ∙ same_location_is c.get_adjacent_location-p.result c.args.loc) c.if-eq.false
+    rounding_on D I c.loop-test.true (since I.same (C _ _ _ _ I.same c.step.ensures)) c.in_ok-step.was c.get_adjacent_location-p.ensures (c.eq.ensures ∙ same_location_is c.get_adjacent_location-p.result c.args.way.to) c.if-eq.false
 
 pub returns : goal.returns
 returns g c = λ one run D C. rounding_ends D (c.loop.invariant one run D C) c.loop-test.false

@@ -8,4 +8,4 @@ use Rattle.rectclip.proofs.Turning.{Rounding}
 use Rattle.rectclip.proofs.walk.Walker.for_each_side.Given as goal
 
 abbrev pub invariant-loop : goal.invariant-loop
-invariant-loop g l = (one : Walk → Location → Try Walk) (run : ℕ → Walk → Location → Try Walk) → Rounds l.loc l.is_clockwise one run → CallsAre l.initial.self one (goal.F-post g l.step) → Rounding run l.initial.self l.initial.p l.self l.p l.counter
+invariant-loop g l = (one : Walk → Location → Try Walk) (run : ℕ → Walk → Location → Try Walk) → Rounds l.way.to l.way.is_clockwise one run → CallsAre l.initial.self one (goal.F-post g l.step) → Rounding run l.initial.self l.initial.p l.self l.p l.counter

@@ -4,7 +4,7 @@ use Rattle.rectclip.proofs.Walking.{thrown}
 use Rattle.rectclip.proofs.walk.Walker.one_pass.Goals as goal
 
 pub returns : goal.returns
-returns c = pass_went c.args.self.now c.args.s c.get_next_location.ensures.moves c.in_ok-next.was c.pass_from.ensures
+returns c = pass_went c.args.self.now c.args.s c.get_next_location.ensures c.in_ok-next.was c.pass_from.ensures
 
 pub returns-in_err-next : goal.returns-in_err-next
-returns-in_err-next c = rw (thrown c.from_residual.result c.from_residual.ensures) (pass_lost c.args.self.now c.args.s c.get_next_location.ensures.moves c.in_err-next.was)
+returns-in_err-next c = rw (thrown c.from_residual.result c.from_residual.ensures) (pass_lost c.args.self.now c.args.s c.get_next_location.ensures c.in_err-next.was)

@@ -10,4 +10,4 @@ returns-in_err-pass_in c =
 
 pub returns : goal.returns
 returns c =
-    to_out c.args.self.now c.args.c c.args.crossing.point c.args.crossing.side c.args.second.point c.args.second.side c.pass_in.ensures c.in_ok-pass_in.was c.first_of-first_cross.ensures c.pass_out.ensures
+    to_out c.args.self.now c.args.c c.args.crossing.point c.args.crossing.side c.args.second.point c.args.second.side c.pass_in.ensures c.in_ok-pass_in.was c.pass_out.ensures

@@ -1,6 +1,0 @@
--- `strike` meets its contract: the first entry that is the node, if there is one.
-use Rattle.rectclip.proofs.Striking.{Striking}
-use Rattle.rectclip.proofs.edges.strike.Given as goal
-
-abbrev pub invariant-loop-i : goal.invariant-loop-i
-invariant-loop-i l = Striking l.e l.op l.initial.a l.a l.i

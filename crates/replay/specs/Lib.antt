@@ -1,2 +1,0 @@
--- Words of the replay program's contracts.
-pub mod Fits
