@@ -44,7 +44,8 @@ fn grown(s: Rect64, p: Point64) -> Rect64
 
 // The bounds of a path, as `get_bounds_path` gives them, and whether every coordinate is within the limit; an odd last number is no
 // point. One loop reads each coordinate once: a path that has points is within the limit exactly if its bounds are.
-// A slice pattern and no `for`: 11,807 instructions for 1,024 points, where a `for` over positions or over `as_chunks` has 12,328.
+// A slice pattern and no `for`: 11,807 instructions for 1,024 points, where a `for` over positions or over `as_chunks` has 12,328. Over
+// `chunks_exact(2)` it has 11,809, but a pair would be read by two indices.
 pub fn survey(path: &[i64]) -> Extent
     ensures { result ≡ survey (points_of path.now) }
 {

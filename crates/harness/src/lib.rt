@@ -115,6 +115,7 @@ fn clip_counted(
         coordinates,
         lengths,
     )?;
+    // three stores: an array to copy from would name them as well
     counts[0] = drawn.paths;
     counts[1] = drawn.points;
     counts[2] = drawn.turns;

@@ -53,7 +53,7 @@ impl From<Location> for u32 {
 }
 
 impl Location {
-    // The side order, clockwise from the left: the discriminants, as constants for callers.
+    // The side order, clockwise from the left: the discriminants, as constants of the type too, which document 01 asks for.
     pub const LEFT: u32 = 0;
 
     pub const TOP: u32 = 1;

@@ -55,7 +55,8 @@ fn marked_list(v: Option<EdgeList>) -> usize
 }
 
 // A node's four fields have a reader and a setter each, as the definition has: one over the field's number would need the field's bound
-// and law by cases at each call.
+// and law by cases at each call. That an index is one of the arena's, and that one more result has room, stays in the contracts, here and in the
+// methods of other files: a struct of an index could not say of which arena it is.
 impl<'a> Arena<'a> {
     ghost use Rattle.rectclip.specs.Changes.{arena_of, pts_of, Leaves, Grows};
 

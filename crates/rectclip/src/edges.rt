@@ -105,7 +105,7 @@ impl Arena<'_> {
         }
     }
 
-    // The first entry of the list that is `op` is struck out.
+    // The first entry of the list that is `op` is struck out. A `for` with a return, like the scan of next.rt.
     pub(crate) fn strike(&mut self, list: EdgeList, op: usize)
         requires { op < self.old.sizes.nodes }
         ensures { Leaves self.old self.new (set_edge_list (arena_of self.old) list.idx (struck (edge_list (arena_of self.old) list.idx) op)) }

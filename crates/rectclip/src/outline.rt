@@ -34,7 +34,7 @@ pub(crate) struct StepCounts {
     pub downs: usize,
 }
 
-// Whether the way from side `a` to side `b` is one step clockwise.
+// Whether the way from side `a` to side `b` is one step clockwise. Not `heading_clockwise`: from Bottom to Inside is a step here.
 fn steps_up(a: Location, b: Location) -> bool
     ensures { result ≡ steps_up a b }
 {
@@ -72,7 +72,7 @@ impl Walker<'_> {
         (0..n).rev().find_map(|i| self.off_edges(i))
     }
 
-    // Start side `i`.
+    // Start side `i`. `from_number` has no inside.
     #[tactic(auto, using(crate::proofs::StartSides::location_inside, crate::proofs::StartSides::location_side))]
     fn start_loc(&self, i: usize) -> Location
         requires { i < self.now.state.start_locs }

@@ -5,7 +5,8 @@ ghost use Rattle.plane.specs.declared.location.Location.TheVariants.{Inside};
 use crate::segment::Segment;
 use plane::location::Location;
 
-// What a pass of the `while` hands to the next.
+// What a pass of the `while` hands to the next. Until a side is crossed the last two are `Inside`, as the definition has them: an Option would be
+// unwrapped wherever a side is compared or gone to, which is no plainer.
 #[derive(Clone, Copy)]
 pub(crate) struct ClosedState {
     pub i: usize,

@@ -30,7 +30,8 @@ pub(crate) fn link_nodes(work: &mut [u32], n: usize)
     }
 }
 
-// The arena of `n` walked points, which the list `points` holds, in `slots` slots.
+// The arena of `n` walked points, which the list `points` holds, in `slots` slots. The lists are apart here and above: what the arena knows of them does
+// not hold before it is made.
 pub(crate) fn build_ring<'a>(
     points: &'a [i64],
     work: &'a mut [u32],

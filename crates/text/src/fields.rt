@@ -6,7 +6,7 @@ ghost use Rattle.text.specs.Scanning.{counted, leading, behind, leading_behind};
 
 use crate::number::number;
 
-// How many numbers the fields are, where all are numbers.
+// How many numbers the fields are, where all are numbers. By `try_fold` the count would go through a closure, which is no plainer.
 fn count_numbers(bytes: &[u8]) -> Option<usize>
     ensures { result ≡ counted 0 (numbers (fields bytes.now)) }
 {

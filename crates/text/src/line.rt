@@ -2,7 +2,7 @@
 use itoa::Buffer;
 
 // The list, and how many bytes at its front are the line so far. The library's `Cursor` answers an `io::Result` to each write; here whoever begins a
-// line has seen that there is room for all of it.
+// line has seen that there is room for all of it. `HasRoom` stays in the contracts: it is of the line and the bytes of one call.
 #[derive(Drop)]
 pub(crate) struct Line<'a> {
     pub(crate) out: &'a mut [u8],

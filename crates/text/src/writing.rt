@@ -41,7 +41,7 @@ pub fn write_rectangle(rect: Rect64, out: &mut [u8]) -> Option<usize>
     write_line(b'R', &head, &tail, out)
 }
 
-// `X`, the line and the refusal's number. Any number is taken, as a `Refusal` would not be: the C functions answer numbers too.
+// `X`, the line and the refusal's number. It takes any number: a `Refusal` would ask more of callers than before.
 pub fn write_refusal(line: i64, number: i64, out: &mut [u8]) -> Option<usize>
     ensures { Written (line_of 88 (line ∷ number ∷ [])) out.old result out.new }
 {
