@@ -1,4 +1,6 @@
 // What the lines of the stored file do, one behind another: a rectangle, a drawing, or a line of a stored answer.
+ghost use Rattle.std.specs.Prelude.{◌≤◌};
+
 use arrayvec::ArrayVec;
 use plane::rect::Rect64;
 use program::answers::answer_line;
@@ -8,17 +10,19 @@ use std::io::{Print, Write};
 use text::comparing::same_bytes;
 use text::reading::{Request, read_line};
 
-// Where differences are printed; the rectangle; the line of the last drawing, which is not yet counted, with its answer and what is stored of
-// that; drawings and equal answers so far.
+// Where differences are printed; the rectangle; the line of the last drawing, which is not yet counted, with its answer, as many bytes of the list as
+// it has, and what is stored of that; drawings and equal answers so far. The answer is in no `ArrayVec`, since `answer_line` takes a whole list.
 #[derive(Drop)]
 pub(crate) struct Replay<'a, P> {
     rt: &'a P,
     rect: Rect64,
     drawing: Option<i64>,
-    answer: ArrayVec<u8, 12288>,
+    answer: [u8; 12288],
+    size: usize,
     stored: ArrayVec<u8, 12288>,
     pub drawings: u64,
     pub same: u64,
+    ghost fits: { size ≤ 12288 },
 }
 
 impl<'a, P: Print> Replay<'a, P> {
@@ -28,7 +32,8 @@ impl<'a, P: Print> Replay<'a, P> {
             rt,
             rect: Rect64::new(0, 0, 0, 0),
             drawing: None,
-            answer: ArrayVec::new(),
+            answer: [0; 12288],
+            size: 0,
             stored: ArrayVec::new(),
             drawings: 0,
             same: 0,
@@ -40,7 +45,7 @@ impl<'a, P: Print> Replay<'a, P> {
         let Some(line) = self.drawing.take() else {
             return Ok(());
         };
-        let equal = same_bytes(self.answer.as_slice(), self.stored.as_slice());
+        let equal = same_bytes(&self.answer[..self.size], self.stored.as_slice());
         self.drawings = self.drawings.wrapping_add(1);
         self.same = self.same.wrapping_add(u64::from(equal));
         if equal {
@@ -55,10 +60,8 @@ impl<'a, P: Print> Replay<'a, P> {
             self.rect = rect;
             return Ok(());
         }
-        let mut out = [0; 12288];
-        let n = answer_line(self.rect, number, line, &mut out);
-        self.answer.clear();
-        self.answer.write_all(&out[..n])?;
+        let size = answer_line(self.rect, number, line, &mut self.answer);
+        self.size = size;
         self.stored.clear();
         self.drawing = Some(number);
         Ok(())
