@@ -11,6 +11,7 @@ use lib.Dec.{leb}
 use lib.IntN.{ℤ, pos}
 use lib.Seq.{sets-eq, length-sets, drop-cons, drop-drop, take-suc, take_all}
 use borrow.Author.Tests.{le-leb, lt-leb, leb-true, leb-false}
+use Rattle.std.specs.Option.{is_some}
 use Rattle.text.specs.declared.line.Line.{Line}
 use Rattle.text.specs.Lines.{HasRoom, Puts}
 use Rattle.text.specs.Decimal.{signed_decimal}
@@ -122,6 +123,26 @@ room_left_is room need {more} e = go (leb need room) refl e
 pub comma_append : (xs ys : List ℤ) → comma_numbers (xs ++ ys) ≡ comma_numbers xs ++ comma_numbers ys
 comma_append [] ys = refl
 comma_append (x ∷ xs) ys = ap (λ (l : List ℕ). 44 ∷ signed_decimal x ++ l) (comma_append xs ys) ∙ ap (λ (l : List ℕ). 44 ∷ l) (sym (append_assoc (signed_decimal x) (comma_numbers xs) (comma_numbers ys)))
+
+pub commas_length : (xs ys : List ℤ) → length (comma_numbers (xs ++ ys)) ≡ length (comma_numbers xs) + length (comma_numbers ys)
+commas_length xs ys = ap length (comma_append xs ys) ∙ length-append (comma_numbers xs) (comma_numbers ys)
+
+-- so many bytes and so many more fit where the second fit into what the first leave
+is_left : (room need : ℕ) → is_some (room_after room need) ≡ leb need room
+unfolding room_after
+is_left room need = go (leb need room)
+  where
+    go : (t : Bool) → is_some (if t then Some (room - need) else None) ≡ t
+    go true = refl
+    go false = refl
+
+pub fit_left : (room a b : ℕ) {more : ℕ} → Some more ≡ room_after room a → is_some (room_after more b) ≡ leb (a + b) room
+fit_left room a b e =
+    let f = room_left_is room a e in
+    ap (λ (k : ℕ). is_some (room_after k b)) f.left ∙ sym (ap is_some (room_less room a b f.fits)) ∙ is_left room (a + b)
+
+pub fit_none : (room a b : ℕ) → None ≡ room_after room a → false ≡ leb (a + b) room
+fit_none room a b e = let h = room_full_is room a e in sym (lt-leb (a + b) room (omega (arith, h)))
 
 pub record PutTo (list : List ℤ) (x y : Line) (i : ℕ) : Type 0 where
   pub puts : Puts x y (comma_numbers (take i list))

@@ -72,7 +72,7 @@ coordinate_width (negsuc n) h = omega (arith, eight (suc n) h)
 comma_width : (z : ℤ) (zs : List ℤ) → length (comma_numbers (z ∷ zs)) ≡ suc (length (signed_decimal z) + length (comma_numbers zs))
 comma_width z zs = omega (arith, length-append (signed_decimal z) (comma_numbers zs))
 
-commas_width : (zs : List ℤ) → length (comma_numbers zs) ≤ 22 * length zs
+pub commas_width : (zs : List ℤ) → length (comma_numbers zs) ≤ 22 * length zs
 commas_width [] = omega arith
 commas_width (z ∷ zs) = omega (arith, comma_width z zs, number_width z, commas_width zs)
 

@@ -1,7 +1,7 @@
-// The lines that the program prints, each written to the front of a lent list of bytes. A line is measured before it is written, since one that
-// does not fit leaves the list as it came: by `Display` that would be two sinks of our own, and a `fmt::Result` from each write that cannot fail.
-ghost use Rattle.std.specs.Prelude.{◌≡◌, [], ◌∷◌, ◌++◌, ◌≤◌, length};
-ghost use Rattle.text.specs.Printing.{line_of, rectangle_line};
+// The lines that the program prints, each written to the front of a lent list of bytes. Whether a line fits is seen before it is written, since one
+// that does not leaves the list as it came: by `Display` that would be two sinks of our own, and a `fmt::Result` from each write that cannot fail.
+ghost use Rattle.std.specs.Prelude.{◌≡◌, [], ◌∷◌, ◌++◌, ◌≤◌, length, leb};
+ghost use Rattle.text.specs.Printing.{comma_numbers, line_of, rectangle_line};
 ghost use Rattle.text.specs.Putting.{Put};
 ghost use Rattle.text.specs.Written.{Written, coordinates_line};
 
@@ -22,13 +22,28 @@ fn put_line(letter: u8, head: &[i64], tail: &[i64], out: &mut [u8]) -> usize
     line.end
 }
 
+// Whether the numbers of two lists fit in so many bytes, each with a comma before it. One takes 22 bytes at most, and they are measured only where
+// so many might not fit.
+fn fit(head: &[i64], tail: &[i64], room: usize) -> bool
+    ensures { result ≡ leb (length (comma_numbers (head.now ++ tail.now))) room }
+{
+    if head.len() + tail.len() <= room / 22 {
+        return true;
+    }
+    match room_after(head, room) {
+        Some(more) => room_after(tail, more).is_some(),
+        None => false,
+    }
+}
+
 // A letter, the numbers of two lists, a line feed. Answers how many bytes the line has; where `out` cannot hold it, None, and `out` stays as it came.
 fn write_line(letter: u8, head: &[i64], tail: &[i64], out: &mut [u8]) -> Option<usize>
     ensures { Written (line_of letter (head.now ++ tail.now)) out.old result out.new }
 {
     let room = out.len().checked_sub(2)?;
-    let more = room_after(head, room)?;
-    room_after(tail, more)?;
+    if !fit(head, tail, room) {
+        return None;
+    }
     Some(put_line(letter, head, tail, out))
 }
 
