@@ -1,117 +1,166 @@
--- A field's number is what the library's `parse` reads, where no plus stands first. Assumes nothing.
-use Rattle.std.specs.Prelude.{Some, None, if◌then◌else◌, Result, Ok, Err}
-use mathlib.Core.Path.{◌≡◌, refl, sym, ◌∙◌, ap, subst}
+-- A field's number is that of its digits, which are gone through one behind another: 64 bits hold each number on the way, or a later one is no smaller.
+-- Assumes nothing.
+use Rattle.std.specs.Prelude.{Option, Some, None, if◌then◌else◌, Result, Ok, Err}
+use mathlib.Core.Path.{◌≡◌, refl, sym, ◌∙◌, ap}
 use mathlib.Core.Bool.{Bool, true, false, not, ◌&&◌, ◌||◌}
-use mathlib.Core.Logic.{◌≢◌}
 use mathlib.Core.List.{List, [], ◌∷◌}
-use Prim.Native.Nat.{ℕ, zero, suc, ◌-◌, ◌^◌, ◌<◌}
+use Prim.Native.Nat.{ℕ, zero, suc, ◌+◌, ◌-◌, ◌*◌, ◌^◌, ◌<◌, ◌≤◌}
 use native.Mathlib.Omega.{arith}
-use lib.ListN.{length, get_or}
-use lib.Dec.{eqb, leb}
-use lib.IntN.{ℤ, pos, neg_ℤ}
-use borrow.Author.Rules.{rules}
-use borrow.Author.Tests.{le-leb, leb-true, eqb-true, eqb-false}
-use mir.Syntax.{w64}
-use Rattle.std.specs.List.{starts_with}
+use Rattle.integers.specs.Order.{zint, sub_pn}
+use native.Mathlib.Numerals.{add-one}
+use lib.ListN.{length, take, drop, get_or, drop_of_length-le}
+use lib.Dec.{eqb, leb, ltb}
+use lib.IntN.{ℤ, pos, negsuc, neg_ℤ, ◌-ℤ◌}
+use lib.Pointwise.{pointwise}
+use lib.Seq.{drop-cons}
+use borrow.Author.Tests.{le-leb, lt-leb, leb-true, ltb-true, ltb-false, lt-ltb, le-ltb}
+use mir.Syntax.{w64, w128}
+use mir.Val.{SFits}
 use Rattle.std.specs.Result.{OkIff, result_ok}
-use Rattle.std.specs.Str.{IsAscii, IsUtf8}
-use Rattle.std.specs.Str.Parse.{ParsesSigned}
-use Rattle.std.proofs.lemmas.Str.{IsUtf8-from_ascii}
-use Rattle.std.proofs.lemmas.Str.Parse.{IsDigitsTest, IsNumeralModel, numerals_by_fold, parse_signed_minus, parse_signed_plain}
 use Rattle.plane.specs.Basics.{is_nil}
-use Rattle.text.specs.Decimal.{field, digits_of, all_digits, value_from}
+use Rattle.text.specs.Decimal.{field, digits_of, is_digit, all_digits, value_from}
+use Rattle.text.specs.Scanning.{magnitude}
 
--- ---- the definition's digits are the library's
-tells : IsDigitsTest (λ ds. all_digits ds ≡ true)
-tells = search rules
+-- ---- digits behind those that stand for n
+unfoldable pub digits_from : ℕ → List ℕ → Option ℕ
+digits_from n [] = Some n
+digits_from n (b ∷ bs) =
+    let more = digits_from (10 * n + (b - 48)) bs in
+    if is_digit b && ltb (10 * n + (b - 48)) (2 ^ 64) then more else None
 
-own : IsNumeralModel (λ ds. all_digits ds ≡ true) (value_from 0)
-own = numerals_by_fold _ tells value_from (search rules)
+digits_from_by : (n b : ℕ) (bs : List ℕ) {d t : Bool} → is_digit b ≡ d → ltb (10 * n + (b - 48)) (2 ^ 64) ≡ t
+    → digits_from n (b ∷ bs) ≡ (if d && t then digits_from (10 * n + (b - 48)) bs else None)
+unfolding digits_from
+digits_from_by n b bs p q = λ i. if p i && q i then digits_from (10 * n + (b - 48)) bs else None
 
--- what is no digits is no number
-or_true : (t : Bool) → (t || true) ≡ true
-or_true true = refl
-or_true false = refl
+value_grows : (n : ℕ) (bs : List ℕ) → n ≤ value_from n bs
+value_grows n [] = omega arith
+value_grows n (b ∷ bs) = omega (arith, value_grows (10 * n + (b - 48)) bs)
 
-no_digits : (negative : Bool) (ds : List ℕ) → all_digits ds ≡ false → None ≡ digits_of negative ds
-unfolding digits_of
-no_digits negative ds e = rw (e, or_true (is_nil ds)) refl
+held : Bool → ℕ → Option ℕ
+held a v = if not a then None else if ltb v (2 ^ 64) then Some v else None
 
--- ---- what the library reads of digits
-module _ {E : Type 0} (ds : List ℕ) (z : ℤ) {F : Type 0} (t : Bool) (to : F → t ≡ true) (from : t ≡ true → F) where
-  digits_read : (r : Result ℤ E) → OkIff r ((all_digits ds ≡ true) × (0 < length ds) × F) z
-      → result_ok r ≡ (if is_nil ds || not (all_digits ds) then None else if t then Some z else None)
-  digits_read r h = go (is_nil ds) (all_digits ds) t refl refl refl r h
-    where
-      some : (l : List ℕ) → is_nil l ≡ false → 0 < length l
-      some [] e = absurd (let y : ◌≡◌ {A = ℕ} 0 1 = cc in omega arith)
-      some (x ∷ l) e = omega arith
+too_large : (a : Bool) (v : ℕ) → 2 ^ 64 ≤ v → None ≡ held a v
+unfolding held
+too_large true v h = rw (le-ltb v (2 ^ 64) h) refl
+too_large false v h = refl
 
-      none : (l : List ℕ) → is_nil l ≡ true → 0 < length l → ⊥
-      none [] e h = omega arith
-      none (x ∷ l) e h = absurd (let y : ◌≡◌ {A = ℕ} 0 1 = cc in omega arith)
+digits_from_is : (n : ℕ) (bs : List ℕ) → n < 2 ^ 64 → digits_from n bs ≡ held (all_digits bs) (value_from n bs)
+unfolding digits_from held
+digits_from_is n [] h = rw (lt-ltb n (2 ^ 64) h) refl
+digits_from_is n (b ∷ bs) h = go (λ g. digits_from_is (10 * n + (b - 48)) bs g) (is_digit b) (ltb (10 * n + (b - 48)) (2 ^ 64)) refl
+  where
+    go : (10 * n + (b - 48) < 2 ^ 64 → digits_from (10 * n + (b - 48)) bs ≡ held (all_digits bs) (value_from (10 * n + (b - 48)) bs))
+        → (d t : Bool) → ltb (10 * n + (b - 48)) (2 ^ 64) ≡ t
+        → (if d && t then digits_from (10 * n + (b - 48)) bs else None) ≡ held (d && all_digits bs) (value_from (10 * n + (b - 48)) bs)
+    go f false t e = refl
+    go f true true e = f (ltb-true _ _ e)
+    go f true false e = too_large (all_digits bs) (value_from (10 * n + (b - 48)) bs) (let g = ltb-false _ _ e in omega (arith, g, value_grows (10 * n + (b - 48)) bs))
 
-      go : (n a u : Bool) → is_nil ds ≡ n → all_digits ds ≡ a → t ≡ u → (r : Result ℤ E) → OkIff r ((all_digits ds ≡ true) × (0 < length ds) × F) z
-          → result_ok r ≡ (if n || not a then None else if u then Some z else None)
-      go true a u en ea eu (Ok x) h = absurd (none ds en h.0.1)
-      go true a u en ea eu (Err x) h = refl
-      go false false u en ea eu (Ok x) h = absurd (let y : ◌≡◌ {A = ℕ} 0 1 = (let q = sym ea ∙ h.0.0 in cc) in omega arith)
-      go false false u en ea eu (Err x) h = refl
-      go false true true en ea eu (Ok x) h = ap Some h.1
-      go false true true en ea eu (Err x) h = absurd (h (ea, some ds en, from eu))
-      go false true false en ea eu (Ok x) h = absurd (let y : ◌≡◌ {A = ℕ} 0 1 = (let q = sym eu ∙ to h.0.2 in cc) in omega arith)
-      go false true false en ea eu (Err x) h = refl
+pub magnitude_none : (bs : List ℕ) → length bs ≡ 0 → None ≡ magnitude bs
+unfolding magnitude
+magnitude_none [] h = refl
+magnitude_none (b ∷ bs) h = absurd (omega arith)
 
--- ---- a field
-pub field_read : {E : Type 0} (bs : List ℕ) (r : Result ℤ E) → get_or bs 0 0 ≢ 43 → ParsesSigned w64 10 bs r → result_ok r ≡ field bs
+-- ---- the first i of a field's bytes are digits that stand for a number
+pub record MagnitudeTo (bs : List ℕ) (n i : ℕ) : Type 0 where
+  pub goal : digits_from n (drop i bs) ≡ magnitude bs
+
+pub magnitude_start : (bs : List ℕ) → (length bs ≡ 0 → ⊥) → MagnitudeTo bs 0 0
+unfolding magnitude held
+magnitude_start [] h = absurd (h refl)
+magnitude_start (b ∷ bs) h = record { goal = digits_from_is 0 (b ∷ bs) (omega arith) }
+
+module _ {bs : List ℕ} {n i : ℕ} (s : MagnitudeTo bs n i) where
+  module _ (h : i < length bs) where
+    step : digits_from n (drop i bs) ≡ digits_from n (get_or bs i 0 ∷ drop (i + 1) bs)
+    step = ap (digits_from n) (drop-cons bs i 0 h ∙ ap (λ (k : ℕ). get_or bs i 0 ∷ drop k bs) (sym (add-one i)))
+
+    pub no_digit : false ≡ is_digit (get_or bs i 0) → None ≡ magnitude bs
+    no_digit e = sym (digits_from_by n (get_or bs i 0) (drop (i + 1) bs) (sym e) refl) ∙ sym step ∙ s.goal
+
+    pub no_room : 2 ^ 64 ≤ 10 * n + (get_or bs i 0 - 48) → None ≡ magnitude bs
+    no_room g = go (is_digit (get_or bs i 0)) ∙ sym (digits_from_by n (get_or bs i 0) (drop (i + 1) bs) refl (le-ltb _ _ g)) ∙ sym step ∙ s.goal
+      where
+        go : (d : Bool) → None ≡ (if d && false then digits_from (10 * n + (get_or bs i 0 - 48)) (drop (i + 1) bs) else None)
+        go true = refl
+        go false = refl
+
+    pub magnitude_again : true ≡ is_digit (get_or bs i 0) → 10 * n + (get_or bs i 0 - 48) < 2 ^ 64 → MagnitudeTo bs (10 * n + (get_or bs i 0 - 48)) (i + 1)
+    magnitude_again e g = record { goal = sym (digits_from_by n (get_or bs i 0) (drop (i + 1) bs) (sym e) (lt-ltb _ _ g)) ∙ sym step ∙ s.goal }
+
+  pub magnitude_end : length bs ≤ i → Some n ≡ magnitude bs
+  unfolding digits_from
+  magnitude_end h = sym (ap (digits_from n) (drop_of_length-le bs h)) ∙ s.goal
+
+-- ---- the field of digits with a minus or without one
+abbrev pub signed : Bool → Option ℕ → Option ℤ
+signed negative None = None
+signed true (Some n) = if leb n (2 ^ 63) then Some (neg_ℤ (pos n)) else None
+signed false (Some n) = if leb n (2 ^ 63 - 1) then Some (pos n) else None
+
+digits_sized : (negative : Bool) (bs : List ℕ) → signed negative (magnitude bs) ≡ digits_of negative bs
+unfolding magnitude digits_of
+digits_sized negative bs = go negative (is_nil bs || not (all_digits bs)) (ltb (value_from 0 bs) (2 ^ 64)) refl
+  where
+    go : (s t u : Bool) → ltb (value_from 0 bs) (2 ^ 64) ≡ u
+        → signed s (if t then None else if u then Some (value_from 0 bs) else None)
+        ≡ (if t then None else if s then (if leb (value_from 0 bs) (2 ^ 63) then Some (neg_ℤ (pos (value_from 0 bs))) else None)
+        else (if leb (value_from 0 bs) (2 ^ 63 - 1) then Some (pos (value_from 0 bs)) else None))
+    go true true u e = refl
+    go false true u e = refl
+    go true false true e = refl
+    go false false true e = refl
+    go true false false e = let g = ltb-false _ _ e in rw (lt-leb (value_from 0 bs) (2 ^ 63) (omega (arith, g))) refl
+    go false false false e = let g = ltb-false _ _ e in let h : 9223372036854775807 < value_from 0 bs = omega (arith, g) in rw (lt-leb (value_from 0 bs) (2 ^ 63 - 1) h) refl
+
+pub field_minus : (bs ds : List ℕ) {m : Option ℕ} → pointwise eqb (take 1 bs) (45 ∷ []) ≡ true → ds ≡ drop 1 bs → m ≡ magnitude ds → signed true m ≡ field bs
+unfolding field
+field_minus bs ds h q e = ap (signed true) (e ∙ ap magnitude q) ∙ digits_sized true (drop 1 bs) ∙ go bs h
+  where
+    by_test : (t : Bool) (xs ys : List ℕ) → (t && true) ≡ true → digits_of true ys ≡ (if t then digits_of true ys else digits_of false xs)
+    by_test true xs ys h = refl
+    by_test false xs ys h = absurd (let y : ◌≡◌ {A = ℕ} 0 1 = cc in omega arith)
+
+    go : (bs : List ℕ) → pointwise eqb (take 1 bs) (45 ∷ []) ≡ true → digits_of true (drop 1 bs) ≡ field bs
+    go [] h = absurd (let y : ◌≡◌ {A = ℕ} 0 1 = cc in omega arith)
+    go (b ∷ bs) h = by_test (eqb b 45) (b ∷ bs) bs h
+
+pub field_plain : (bs : List ℕ) {m : Option ℕ} → pointwise eqb (take 1 bs) (45 ∷ []) ≡ false → m ≡ magnitude bs → signed false m ≡ field bs
 unfolding field digits_of
-field_read [] (Ok x) n h = absurd (let q = h.0.0 in omega arith)
-field_read [] (Err x) n h = refl
-field_read (b ∷ bs) r n h = go (eqb b 45) refl
+field_plain bs h e = ap (signed false) e ∙ digits_sized false bs ∙ go bs h
   where
-    go : (t : Bool) → eqb b 45 ≡ t → result_ok r ≡ (if t then digits_of true bs else digits_of false (b ∷ bs))
-    go true e = digits_read bs (neg_ℤ (pos (value_from 0 bs))) (leb (value_from 0 bs) (2 ^ 63)) (λ f. le-leb _ _ f) (λ q. leb-true _ _ q) r (parse_signed_minus own w64 (b ∷ bs) r h (eqb-true b 45 e))
-    go false e =
-        digits_read (b ∷ bs) (pos (value_from 0 (b ∷ bs))) (leb (value_from 0 (b ∷ bs)) (2 ^ 63 - 1)) (λ f. le-leb _ _ (omega (arith, f))) (λ q. let k = leb-true _ _ q in omega (arith, k)) r
-        (parse_signed_plain own w64 (b ∷ bs) r h n (eqb-false b 45 e))
+    by_test : (t : Bool) (xs ys : List ℕ) → (t && true) ≡ false → digits_of false xs ≡ (if t then digits_of true ys else digits_of false xs)
+    by_test true xs ys h = absurd (let y : ◌≡◌ {A = ℕ} 0 1 = cc in omega arith)
+    by_test false xs ys h = refl
 
--- one with a plus is no number
-pub plus_none : (bs : List ℕ) → true ≡ starts_with eqb bs (43 ∷ []) → None ≡ field bs
-unfolding field
-plus_none [] e = absurd (let y : ◌≡◌ {A = ℕ} 0 1 = cc in omega arith)
-plus_none (b ∷ bs) e = go (eqb 43 b) refl e
+    go : (bs : List ℕ) → pointwise eqb (take 1 bs) (45 ∷ []) ≡ false → digits_of false bs ≡ field bs
+    go [] h = refl
+    go (b ∷ bs) h = by_test (eqb b 45) (b ∷ bs) bs h
+
+-- what 64 signed bits hold of it
+pub signed_plain : {E : Type 0} (n : ℕ) (r : Result ℤ E) → OkIff r (SFits w64 (pos n)) (pos n) → result_ok r ≡ signed false (Some n)
+signed_plain n (Ok z) h = let g = h.0.sfits in rw (le-leb n (2 ^ 63 - 1) (omega (arith, g))) (ap Some h.1)
+signed_plain n (Err x) h = go (leb n (2 ^ 63 - 1)) refl
   where
-    go : (t : Bool) → eqb 43 b ≡ t → true ≡ (t && true) → None ≡ field (b ∷ bs)
-    go true q e = subst (λ (x : ℕ). None ≡ field (x ∷ bs)) (eqb-true 43 b q) (no_digits false (43 ∷ bs) refl)
-    go false q e = absurd (let y : ◌≡◌ {A = ℕ} 0 1 = cc in omega arith)
+    go : (t : Bool) → leb n (2 ^ 63 - 1) ≡ t → None ≡ (if t then Some (pos n) else None)
+    go true e = absurd (h (record { sfits = let g = leb-true _ _ e in omega (arith, g) }))
+    go false e = refl
 
-pub no_plus : (bs : List ℕ) → false ≡ starts_with eqb bs (43 ∷ []) → get_or bs 0 0 ≢ 43
-no_plus [] e q = omega (arith, q)
-no_plus (b ∷ bs) e q = go (eqb 43 b) refl e
+pub minus_is : (n : ℕ) → pos 0 -ℤ pos n ≡ neg_ℤ (pos n)
+minus_is zero = refl
+minus_is (suc n) = omega (zint, sub_pn (pos 0) (pos (suc n)))
+
+pub minus_fits : (n : ℕ) → n < 2 ^ 64 → SFits w128 (neg_ℤ (pos n))
+minus_fits zero h = record { sfits = omega arith }
+minus_fits (suc n) h = record { sfits = omega arith }
+
+pub signed_minus : {E : Type 0} (n : ℕ) (r : Result ℤ E) → OkIff r (SFits w64 (neg_ℤ (pos n))) (neg_ℤ (pos n)) → result_ok r ≡ signed true (Some n)
+signed_minus zero (Ok z) h = ap Some h.1
+signed_minus zero (Err x) h = absurd (h (record { sfits = omega arith }))
+signed_minus (suc n) (Ok z) h = let g = h.0.sfits in rw (le-leb (suc n) (2 ^ 63) (omega (arith, g))) (ap Some h.1)
+signed_minus (suc n) (Err x) h = go (leb (suc n) (2 ^ 63)) refl
   where
-    go : (t : Bool) → eqb 43 b ≡ t → false ≡ (t && true) → ⊥
-    go true p e = absurd (let y : ◌≡◌ {A = ℕ} 0 1 = cc in omega arith)
-    go false p e = eqb-false 43 b p (sym q)
-
--- bytes that are no text are no number
-digits_ascii : (ds : List ℕ) → all_digits ds ≡ true → IsAscii ds
-digits_ascii [] e i = omega arith
-digits_ascii (b ∷ ds) e zero = omega (arith, (tells.parts b ds e).0)
-digits_ascii (b ∷ ds) e (suc i) = digits_ascii ds (tells.parts b ds e).1 i
-
-not_true : (t : Bool) → (t ≡ true → ⊥) → t ≡ false
-not_true true h = absurd (h refl)
-not_true false h = refl
-
-pub no_text : (bs : List ℕ) → ¬ (IsUtf8 bs) → None ≡ field bs
-unfolding field
-no_text [] h = refl
-no_text (b ∷ bs) h = go (eqb b 45) refl
-  where
-    after_minus : b ≡ 45 → IsAscii bs → IsAscii (b ∷ bs)
-    after_minus e a zero = omega (arith, e)
-    after_minus e a (suc i) = a i
-
-    go : (t : Bool) → eqb b 45 ≡ t → None ≡ (if t then digits_of true bs else digits_of false (b ∷ bs))
-    go true e = no_digits true bs (not_true _ (λ d. h (IsUtf8-from_ascii (b ∷ bs) (after_minus (eqb-true b 45 e) (digits_ascii bs d)))))
-    go false e = no_digits false (b ∷ bs) (not_true _ (λ d. h (IsUtf8-from_ascii (b ∷ bs) (digits_ascii (b ∷ bs) d))))
+    go : (t : Bool) → leb (suc n) (2 ^ 63) ≡ t → None ≡ (if t then Some (negsuc n) else None)
+    go true e = absurd (h (record { sfits = let g = leb-true _ _ e in omega (arith, g) }))
+    go false e = refl
