@@ -4,6 +4,7 @@
 Every public function of every library promises something (`ensures`) and has two edits or more, which are printed: those that change its own
 text or a constant that it names; those of a private function, said by a line `of: PUBLIC from PRIVATE`: the public one calls it, and is proved from its
 promise, which has an equation (functions.py says how that is decided); and those of a line `of: PUBLIC`, whose log must refuse that function itself.
+So has the `==` that a public type derives, where a law of proofs/ says what it answers: it has no text, and its edits name that law.
 An edit of specs/ names the law that refuses it, `at: FILE LAW`, and so does one of an item's head, which puts an impl written by hand in place of a
 derive. Every old text stands once in its file, and the new one has the same control words, but at an item's head, so that the proofs still fit.
 Functions that one edit changes do not call each other, so that each is refused for its own sake.
@@ -20,7 +21,7 @@ from concurrent.futures import ThreadPoolExecutor
 from dataclasses import dataclass, field
 
 import antt
-from functions import Promises, called, fitting, functions
+from functions import Promises, called, fitting, functions, modules, types
 from refusals import Log, path_of
 
 HEAD = re.compile(r" *(?:#\[derive\(|impl \w+ \{|pub (?:enum|struct) )")
@@ -158,6 +159,28 @@ def check_edit(crate, edit, all_functions, promises, logs):
     return counted
 
 
+def derived_equalities(crate):
+    """The laws of proofs/ on the `==` of a public type, as (file, law): that `==`, as `rt` prints it, and the type's file."""
+    found, named = {}, types(modules(crate)[1])
+    for module in antt.reached(crate, "proofs"):
+        for alias, key in module.aliases.items():
+            match = re.fullmatch(rf"{crate}\.specs\.contracts\.(\S+)\.(\w+)PartialEq\.TheImpl", key)
+            if not match or not named.get(match[2], ("", False))[1]:
+                continue
+            home, kind = match[1].replace(".", "::"), match[2]
+            for law in re.findall(rf"^(?:pub )?(\S+) : .*\b{alias}\.", module.text, re.M):
+                found[(str(module.path.relative_to(f"crates/{crate}")), law)] = (f"{home}::{kind}PartialEq::eq", f"src/{match[1].replace('.', '/')}.rt")
+    return found
+
+
+def equalities_of(edit, equalities):
+    """The derived `==` that an edit makes another: its `at:` line names the law, and it changes the type's file."""
+    for part in edit.parts:
+        for name, file in (equalities[place] for place in part.at if place in equalities):
+            if any(file == changed_file for changed_file, _ in part.places):
+                yield name
+
+
 def files(crate):
     return sorted(glob.glob(f"crates/{crate}/must-fail/*.edit"))
 
@@ -208,18 +231,19 @@ def size(crate):
 
 
 def check(crate, promises, logs):
-    all_functions = functions(crate)
-    edits_of = {f.name: [] for f in all_functions}
+    all_functions, equalities = functions(crate), derived_equalities(crate)
+    public = [f for f in all_functions if f.public]
+    derived = [name for name, _ in equalities.values()]
+    edits_of = {name: [] for name in [f.name for f in all_functions] + derived}
     for path in files(crate):
         edit = parse(crate, path)
-        for name in {f.name for f in check_edit(crate, edit, all_functions, promises, logs)}:
+        for name in {f.name for f in check_edit(crate, edit, all_functions, promises, logs)} | set(equalities_of(edit, equalities)):
             edits_of[name].append(edit.label)
-    for f in (f for f in all_functions if f.public):
-        print(f"{crate}::{f.name}: {', '.join(edits_of[f.name])}")
-        if len(edits_of[f.name]) < 2:
-            wrong.append(f"{crate}::{f.name}: fewer than two edits")
-        if not f.facts():
-            wrong.append(f"{crate}::{f.name}: it promises nothing (no `ensures`)")
+    for name in dict.fromkeys([f.name for f in public] + derived):
+        print(f"{crate}::{name}: {', '.join(edits_of[name])}")
+        if len(edits_of[name]) < 2:
+            wrong.append(f"{crate}::{name}: fewer than two edits")
+    wrong.extend(f"{crate}::{f.name}: it promises nothing (no `ensures`)" for f in public if not f.facts())
 
 
 def main():

@@ -11,7 +11,7 @@ FUNCTION = re.compile(r'( *)((?:pub(?:\(crate\))? )?)(?:extern "C" )?fn (\w+)')
 @dataclass
 class Function:
     name: str  # as `rt` prints it, without the crate
-    public: bool  # others can name it
+    public: bool  # others can name it, or the trait and the type of its impl
     file: str
     first: int  # its lines, from 1, with the attributes above
     last: int
@@ -41,25 +41,40 @@ def last_line(lines, n, indent):
     return next(k for k in range(n, len(lines)) if lines[k] == indent + "}") + 1
 
 
-def functions(crate):
+def modules(crate):
+    """The modules of a crate's src/: each one's path, its name and whether others can name it; and the name of the top one."""
     root = Path(f"crates/{crate}/src")
     top = "lib" if (root / "lib.rt").exists() else "main"
     head = "\n" + "\n".join(source(root / f"{top}.rt"))
-    found, homes = [], {}
-    files = {path: "::".join(path.relative_to(root).with_suffix("").parts) for path in sorted(root.rglob("*.rt"))}
-    for path, module in files.items():
-        for name in re.findall(r"^(?:pub(?:\(crate\))? )?(?:struct|enum) (\w+)", "\n".join(source(path)), re.M):
-            homes[name] = module
-    for path, module in files.items():
-        shown = module == top or f"\npub mod {module.split('::')[0]};" in head
-        lines, owner, home = source(path), "", module
+    names = ((path, "::".join(path.relative_to(root).with_suffix("").parts)) for path in sorted(root.rglob("*.rt")))
+    return top, [(path, name, name == top or f"\npub mod {name.split('::')[0]};" in head) for path, name in names]
+
+
+def types(files):
+    """The types and traits of these modules: the module of each, and whether others can name it."""
+    found = {}
+    for path, module, shown in files:
+        for public, name in re.findall(r"^(pub(?:\(crate\))? )?(?:struct|enum|trait) (\w+)", "\n".join(source(path)), re.M):
+            found[name] = (module, shown and public == "pub ")
+    return found
+
+
+def functions(crate):
+    root, found = Path(f"crates/{crate}/src"), []
+    top, files = modules(crate)
+    homes = types(files)
+    for path, module, shown in files:
+        lines, owner, home, offered = source(path), "", module, False
         for n, line in enumerate(lines, 1):
             if match := re.match(r"impl(?:<[^>]*>)? (\w+)(?:<[^>]*>)? \{", line):
-                owner, home = match[1], homes.get(match[1], module)  # a method stands where its type does
-            elif match := re.match(r"impl (\w+)(?:<(\w+)>)? for (\w+) \{", line):
+                owner, home = match[1], homes.get(match[1], (module,))[0]  # a method stands where its type does
+            elif match := re.match(r"impl(?:<[^>]*>)? (\w+)(?:<(\w+)>)? for (\w+)(?:<[^>]*>)? \{", line):
                 owner = match[3][0].upper() + match[3][1:] + match[1] + (match[2] or "")
+                offered = all(homes.get(name, ("", True))[1] for name in filter(None, match.groups()))  # a name from elsewhere is public
+            elif line.startswith("impl") and " for " in line:
+                raise SystemExit(f"{path}:{n}: an impl in a form that tools/functions.py does not read")
             elif line == "}":
-                owner, home = "", module
+                owner, home, offered = "", module, False
             if not (match := FUNCTION.match(line)):
                 if re.search(r"\bfn \w+", line):
                     raise SystemExit(f"{path}:{n}: a function in a form that tools/functions.py does not read")
@@ -69,7 +84,8 @@ def functions(crate):
             name = "::".join(p for p in parts if p)
             text = "\n".join(lines[n - 1 : last])
             first = next(k for k in range(n, 0, -1) if k == 1 or not lines[k - 2].startswith(f"{match[1]}#["))
-            found.append(Function(name, shown and match[2] == "pub ", f"src/{path.relative_to(root)}", first, last, text))
+            public = offered or shown and match[2] == "pub "
+            found.append(Function(name, public, f"src/{path.relative_to(root)}", first, last, text))
     return found
 
 
