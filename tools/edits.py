@@ -55,7 +55,10 @@ def replaced(part, texts, crate, path, file, old, new):
     if text.count(old) != 1:
         wrong.append(f"{path}: an old text stands {text.count(old)} times in {file}")
         return
-    if file.startswith("src/") and not HEAD.match(old) and CONTROL.findall(old) != CONTROL.findall(new):
+    head = HEAD.match(old)
+    if file.startswith("src/") and head and not part.at:
+        wrong.append(f"{path}: a change of an item's head without a line `at: FILE LAW` above it: {old.strip()}")
+    if file.startswith("src/") and not head and CONTROL.findall(old) != CONTROL.findall(new):
         wrong.append(f"{path}: a new text has other control words than the old: {old.strip()}")
     part.places.append((file, text[: text.index(old)].count("\n") + 1))
     texts[file] = text.replace(old, new)
