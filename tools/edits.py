@@ -141,7 +141,7 @@ def check_log(where, log, edit, own):
 def check_part(where, part, touched):
     if any(file.startswith("specs/") for file, _ in part.places) and not part.at:
         wrong.append(f"{where}: a change of specs/ without a line `at: FILE LAW`")
-    if any(not file.startswith("specs/") for file, _ in part.places) and not (touched or part.at):
+    if any(not file.startswith("specs/") for file, _ in part.places) and not (touched or part.at or part.of):
         wrong.append(f"{where}: a change of no function")
 
 

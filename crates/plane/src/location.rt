@@ -5,11 +5,11 @@ ghost use Rattle.plane.specs.Locations.{side_number, side, is_inside, opposite, 
 
 #[derive(Clone, Copy, PartialEq, Eq)]
 pub enum Location {
-    Left = 0,
-    Top = 1,
-    Right = 2,
-    Bottom = 3,
-    Inside = 4,
+    Left = Location::LEFT as isize,
+    Top = Location::TOP as isize,
+    Right = Location::RIGHT as isize,
+    Bottom = Location::BOTTOM as isize,
+    Inside = Location::INSIDE as isize,
 }
 
 // What `get_location` answers: the location, and whether the point is off the edges. No enum: callers read the location whichever the flag is.
@@ -53,7 +53,8 @@ impl From<Location> for u32 {
 }
 
 impl Location {
-    // The side order, clockwise from the left: the discriminants, as constants of the type too, which document 01 asks for.
+    // The side order, clockwise from the left, as constants of the type, which document 01 asks for. The discriminants are written by them, so
+    // that `From<Location>` promises what each of them is.
     pub const LEFT: u32 = 0;
 
     pub const TOP: u32 = 1;
