@@ -5,7 +5,7 @@ use Rattle.plane.specs.Rectangle.{rect}
 use Rattle.text.specs.Decimal.{digits_of, field, decimal, signed_decimal}
 use Rattle.text.specs.Reading.{asked, request}
 use Rattle.handheld.specs.Drawn.{clipped}
-use Rattle.program.specs.Taken.{behind_feed, held}
+use Rattle.program.specs.Taken.{behind_feed, held, passed}
 use Rattle.program.specs.Answered.{first_answer, answer}
 use Rattle.plane.specs.Intersection.{at_end, get_segment_intersection, edge_intersection, side_intersection, get_intersection}
 use Rattle.plane.specs.Locations.{start_locs_are_clockwise}
@@ -52,3 +52,8 @@ lines : (held hand 1 0 ≡ record { count = 1; ended = true }) × (behind_feed h
     × (held [] 1 0 ≡ record { count = 0; ended = false })
 unfolding hand
 lines = (refl, refl, refl, refl, refl)
+
+-- of `C` and a line feed, and of `L` and a carriage return, two bytes each are taken
+counted : (passed hand ≡ 2) × (passed (76 ∷ 13 ∷ []) ≡ 2) × (passed [] ≡ 0)
+unfolding hand
+counted = (refl, refl, refl)
