@@ -6,7 +6,7 @@ from pathlib import Path
 
 # a quoted text, a comment to the line's end, or the marks of one in braces
 QUIET = re.compile(r'"(?:\\.|[^"\\])*"|(?<![^\s(){}.;,])--[^\n]*|\{-|-\}')
-USE = re.compile(r"^(?:ghost )?(?:unfoldable )?(?:pub )?use ([^\s{;]+?)(?:\.\{([^}]*)\})?(?: as ([^\s;]+))?;?$", re.M)
+USE = re.compile(r"^ *(?:ghost )?(?:unfoldable )?(?:pub )?use ([^\s{;]+?)(?:\.\{([^}]*)\})?(?: as ([^\s;]+))?;?$", re.M)
 
 
 @dataclass
