@@ -1,14 +1,14 @@
 -- Paths written to the caller's lists, one behind the other, and lists written from their start. Assumes nothing.
 use mathlib.Core.Path.{◌≡◌, refl, sym, ◌∙◌, ap}
-use mathlib.Core.List.{List, [], ◌∷◌, ◌++◌, map, append-nil, append_assoc}
-use Prim.Native.Nat.{ℕ, suc, ◌+◌, ◌*◌, ◌/◌, ◌%◌, ◌-◌, ◌≤◌}
+use mathlib.Core.List.{List, [], ◌∷◌, ◌++◌, map, append-nil}
+use Prim.Native.Nat.{ℕ, suc, ◌+◌, ◌*◌, ◌/◌, ◌-◌, ◌<◌, ◌≤◌}
 use native.Mathlib.Omega.{arith}
-use borrow.Rule.Slice.PartMut.{put_mid}
+use native.Mathlib.Numerals.{add-one}
 use lib.IntN.{ℤ}
 use lib.ListN.{length, drop, take, set, length-append, length-drop, length-map}
-use lib.Seq.{sets, sets-eq, length-sets, drop-drop}
+use lib.Seq.{sets, sets-eq, length-sets, take-suc, take_all, length-take-le}
 use Rattle.plane.specs.declared.point.Point64.{Point64}
-use Rattle.plane.specs.Points.{points_of, coordinates_of}
+use Rattle.plane.specs.Points.{origin, pt_at, points_of, coordinates_of}
 use Rattle.reference.specs.Entry.{joined, filled}
 use Rattle.rectclip.specs.declared.output.Output.{Output}
 use Rattle.rectclip.specs.Memory.{put_point}
@@ -32,12 +32,6 @@ coordinates_join (p ∷ P) Q = ap (λ (l : List ℤ). p.x ∷ p.y ∷ l) (coordi
 pub coordinates_length : (Q : List Point64) → length (coordinates_of Q) ≡ 2 * length Q
 coordinates_length [] = refl
 coordinates_length (q ∷ Q) = ap (λ (n : ℕ). suc (suc n)) (coordinates_length Q) ∙ omega arith
-
--- a list of coordinates that has them in pairs is that of its points
-pub coordinates_back : (l : List ℤ) → length l % 2 ≡ 0 → coordinates_of (points_of l) ≡ l
-coordinates_back [] h = refl
-coordinates_back (x ∷ []) h = absurd (omega arith)
-coordinates_back (x ∷ y ∷ l) h = ap (λ (k : List ℤ). x ∷ y ∷ k) (coordinates_back l (omega arith))
 
 pub filled_length : {A : Type 0} (new old : List A) → length (filled new old) ≡ length new + (length old - length new)
 filled_length new old = length-append new (drop (length new) old) ∙ ap (λ (n : ℕ). length new + n) (length-drop (length new) old)
@@ -121,15 +115,19 @@ pub alone_length : (path : List ℤ) → length (joined (points_of path ∷ []))
 alone_length path = ap length (append-nil (points_of path)) ∙ points_length path
 
 module _ {x : Output} {path : List ℤ} (P : Puts x path) where
-  pub put_room : 2 * (x.points + length path / 2) ≤ length x.coordinates.now
-  put_room = omega (arith, P.takes.points, alone_length path)
+  abbrev Q : List Point64
+  Q = points_of path
 
-  pub put_sets : {k : ℕ} → k ≡ length path → {new : List ℤ} → new ≡ path → put_mid (2 * x.points) k x.coordinates.now new ≡ sets x.coordinates.now (2 * x.points) (coordinates_of (points_of path))
-  put_sets e f =
-      let c = x.coordinates.now in
-      let i = 2 * x.points in
-      rw (f, e, coordinates_back path P.even, sets-eq path c i (omega (arith, put_room, P.even)))
-      (sym (append_assoc (take i c) path (drop (length path) (drop i c))) ∙ ap (λ (l : List ℤ). take i c ++ path ++ l) (drop-drop (length path) i c))
+  module _ {y : Output} {i : ℕ} (W : Pointed x y (take i Q)) where
+    module _ (h : i < length path / 2) where
+      within : i < length Q
+      within = rw (points_length path) h
 
-  pub put_end : x.points + length path / 2 ≡ x.points + length (points_of path)
-  put_end = ap (λ (n : ℕ). x.points + n) (sym (points_length path))
+      pub path_room : 2 * y.points + 1 < length y.coordinates.now
+      path_room = omega (arith, W.points, pointed_length W, length-take-le i Q (omega (arith, within)), P.takes.points, alone_length path, h)
+
+      pub path_more : {z : Output} {p : Point64} → p ≡ pt_at Q i → Pointed y z (p ∷ []) → Pointed x z (take (i + 1) Q)
+      path_more e V = rw (add-one i, take-suc Q i origin within) (pointed_then W (rw e at V))
+
+    pub path_whole : length path / 2 ≤ i → {z : Output} → Ended y z (length path / 2) → Written x z (Q ∷ [])
+    path_whole h E = path_written (rw (take_all i Q (rw (points_length path) h)) at W) (sym (points_length path)) E

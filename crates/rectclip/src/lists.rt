@@ -1,6 +1,6 @@
 // The lent lists: fixed memory, lent by the caller, since there is no heap. So nodes are indices, and sizes stand beside the lists (`Sizes`, `WalkState`).
 // The store holds points, x then y; the work list holds slots of sixteen fields. They are read and written here, but that next.rt reads one
-// coordinate of a point, pieces.rt and output.rt take a path whole, and call.rt clears both lists.
+// coordinate of a point, pieces.rt takes a path whole, and call.rt clears both lists.
 ghost use Rattle.std.specs.Prelude.{◌≡◌, ◌+◌, ◌*◌, ◌<◌, length};
 ghost use Rattle.plane.specs.Points.{pt_at, points_of};
 ghost use Rattle.rectclip.specs.Memory.{at, put, put_point};

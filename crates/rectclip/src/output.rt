@@ -1,7 +1,7 @@
 // The caller's two lists for a result, its coordinates and the length of each path, with how much of them is filled.
 ghost use Rattle.std.specs.Prelude.{◌*◌, ◌≤◌, length};
 
-use crate::lists::put_point;
+use crate::lists::{point_at, put_point};
 use plane::point::Point64;
 
 #[derive(Drop)]
@@ -51,15 +51,15 @@ impl<'a> Output<'a> {
         self.paths += 1;
     }
 
-    // A whole path.
+    // A whole path, point by point: for `copy_from_slice` an archive for C would need `memmove` from outside.
     pub(crate) fn put_path(&mut self, path: &[i64])
         requires { Puts self.old path.now }
         ensures { Written self.old self.new (points_of path.now ∷ []) }
     {
         let n = path.len() / 2;
-        let end = self.points + n;
-        self.coordinates[2 * self.points..2 * end].copy_from_slice(path);
-        self.points = end;
+        for i in 0..n {
+            self.put_point(point_at(path, i));
+        }
         self.end_path(n);
     }
 }
