@@ -36,6 +36,10 @@ has_bytes (b ∷ bs) = true
 abbrev pub at_hand : {N : ℕ} → Input N → List ℕ
 at_hand i = take (i.end - i.at) (drop i.at i.buffer)
 
+-- the buffer and the two places
+abbrev pub parts : {N : ℕ} → Input N → List ℕ × ℕ × ℕ
+parts i = (i.buffer, i.at, i.end)
+
 -- how many bytes are taken: the line's, and its line feed
 abbrev pub passed : List ℕ → ℕ
 passed bytes = length (before_feed bytes) + (if has_feed bytes then 1 else 0)

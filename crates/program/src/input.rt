@@ -1,6 +1,6 @@
 // The input, a line at a time.
 ghost use Rattle.std.specs.Prelude.{◌≡◌, ◌==◌, ◌-◌, not, [], take, drop, position};
-ghost use Rattle.program.specs.Taken.{has_bytes, at_hand, TakesHeld, TakesAtHand, ReadsMore, TakesLine, IsLine};
+ghost use Rattle.program.specs.Taken.{has_bytes, at_hand, parts, TakesHeld, TakesAtHand, ReadsMore, TakesLine, IsLine};
 ghost use Rattle.program.specs.Visited.{VisitsLines};
 
 use crate::visitor::Visitor;
@@ -74,9 +74,28 @@ impl<const N: usize> Input<N> {
 
     // The caller's buffer and any two places in it: its bytes from `at` to `end` are at hand, as far as it has them.
     pub fn from_parts(buffer: [u8; N], at: usize, end: usize) -> Input<N>
-        ensures { at_hand result ≡ take (end - at) (drop at buffer.entry) }
+        ensures hand { at_hand result ≡ take (end - at) (drop at buffer.entry) }
+        ensures parts { parts result ≡ (buffer.entry, at, end) }
     {
         Input { buffer, at, end }
+    }
+
+    // The buffer and the two places in it, as `from_parts` takes them.
+    pub fn into_parts(self) -> ([u8; N], usize, usize)
+        ensures { result ≡ parts self.entry }
+    {
+        let Input { buffer, at, end } = self;
+        (buffer, at, end)
+    }
+
+    // The bytes at hand, in the buffer.
+    pub fn hand(&self) -> &[u8]
+        ensures { result.now ≡ at_hand self.now }
+    {
+        let end = self.end.min(self.buffer.len());
+        let at = self.at.min(end);
+        let buffer = &self.buffer[..];
+        &buffer[at..end]
     }
 
     fn is_empty(&self) -> bool
