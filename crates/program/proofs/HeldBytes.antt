@@ -184,3 +184,17 @@ takes_at_hand buffer line at end from {e} {a} {r} {at'} {after} p q n t =
     let left : between buffer at' end ≡ behind_feed (between buffer a e) =
     end_cut buffer at' end ∙ ap (between buffer at') (sym p) ∙ ap (λ (k : ℕ). between buffer k e) to ∙ sym (hand_behind buffer a e (passed (between buffer a e)) fits) ∙ sym (behind_passed (between buffer a e)) in
     subst (λ (h : List ℕ). TakesAtHand h line from r.line (between buffer at' end) after) (sym same) (record { is = t.is; left = left; line_after = t.line_after })
+
+-- where a line feed is at hand, what is taken stands from `at` on
+pub at_behind : (buffer : List ℕ) (at end : ℕ) {line : List ℕ} {from : ℕ} {e a : ℕ} {r : Held} {after : List ℕ} → e ≡ min end (length buffer) → a ≡ min at e → TakesHeld (between buffer a e) line from r after
+    → has_feed (between buffer at end) ≡ true → a + r.used ≡ at + passed (between buffer at end)
+at_behind buffer at end {e = e} {a = a} {r = r} p q t f = go (ltb at e) refl
+  where
+    go : (b : Bool) → ltb at e ≡ b → a + r.used ≡ at + passed (between buffer at end)
+    go true h =
+        let before = ltb-true at e h in
+        omega (arith, t.used, ap passed (hand_cut buffer at end p q))
+    go false h =
+        let past = ltb-false at e h in
+        let none : false ≡ true = sym (ap has_feed (hand_none buffer at end (omega arith))) ∙ f in
+        absurd (let z : ◌≡◌ {A = ℕ} 0 1 = cc in omega arith)

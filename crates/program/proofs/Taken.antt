@@ -122,7 +122,7 @@ module _ {ahead₀ ahead : Option (List ℕ)} {hand₀ line₀ : List ℕ} {begu
     was = sym to.feed ∙ e
 
     -- the bytes at hand were no whole line
-    never : {A : Type 0} → has_feed hand₀ ≡ true → A
+    pub never : {A : Type 0} → has_feed hand₀ ≡ true → A
     never h = absurd (let z : true ≡ false = sym (feed_first hand₀ to.came h) ∙ was in let y : ◌≡◌ {A = ℕ} 0 1 = cc in omega arith)
 
     -- nothing more comes

@@ -81,6 +81,12 @@ pub record TakesLine (ahead ahead' : Option (List ℕ)) (hand line : List ℕ) (
   pub left : hand' ≡ behind_feed (hand ++ came)
   pub unread : has_feed hand ≡ true → came ≡ []
 
+-- where a whole line is at hand the buffer and the end of its bytes stay as they were, and the first byte at hand is the one behind the line feed
+pub record Unread {N : ℕ} (i i' : Input N) : Type 0 where
+  pub at : i'.at ≡ i.at + passed (at_hand i)
+  pub end : i'.end ≡ i.end
+  pub buffer : i'.buffer ≡ i.buffer
+
 -- whatever came: the line lies within its list, no byte of it is a line feed, the other entries are as they came, and so are all where there is none
 pub record LineIn (line : List ℕ) (count : ℕ) (line' : List ℕ) : Type 0 where
   pub fits : count ≤ length line'

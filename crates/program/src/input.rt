@@ -1,6 +1,6 @@
 // The input, a line at a time.
-ghost use Rattle.std.specs.Prelude.{◌≡◌, ◌==◌, ◌-◌, not, [], take, drop, position};
-ghost use Rattle.program.specs.Taken.{has_bytes, at_hand, parts, TakesHeld, TakesAtHand, ReadsMore, TakesLine, IsLine};
+ghost use Rattle.std.specs.Prelude.{◌≡◌, ◌==◌, ◌-◌, true, not, [], take, drop, position};
+ghost use Rattle.program.specs.Taken.{has_feed, has_bytes, at_hand, parts, TakesHeld, TakesAtHand, ReadsMore, TakesLine, IsLine, Unread};
 ghost use Rattle.program.specs.Visited.{VisitsLines};
 
 use crate::visitor::Visitor;
@@ -106,7 +106,8 @@ impl<const N: usize> Input<N> {
 
     // `take_held` of the bytes at hand, of which those behind the line feed are left.
     fn take_at_hand(&mut self, line: &mut [u8], from: usize) -> Taken
-        ensures { TakesAtHand (at_hand self.old) line.old from result (at_hand self.new) line.new }
+        ensures taken { TakesAtHand (at_hand self.old) line.old from result (at_hand self.new) line.new }
+        ensures unread { has_feed (at_hand self.old) ≡ true → Unread self.old self.new }
     {
         let end = self.end.min(self.buffer.len());
         let at = self.at.min(end);
@@ -132,6 +133,7 @@ impl<const N: usize> Input<N> {
     pub fn take_line<R: Read>(&mut self, input: &mut R, line: &mut [u8]) -> Option<Taken>
         ensures taken { TakesLine (R.remaining input.old) (R.remaining input.new) (at_hand self.old) line.old result (at_hand self.new) line.new }
         ensures line { IsLine line.old result line.new }
+        ensures unread { has_feed (at_hand self.old) ≡ true → Unread self.old self.new }
     {
         let mut begun = !self.is_empty();
         let mut taken = self.take_at_hand(line, 0);
