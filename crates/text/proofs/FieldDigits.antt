@@ -1,4 +1,4 @@
--- A field's number is that of its digits, which are gone through one behind another: 64 bits hold each number on the way, or a later one is no smaller.
+-- A field's number is that of its digits, which are gone through one behind another: what is too large on the way stays too large.
 -- Assumes nothing.
 use Rattle.std.specs.Prelude.{Option, Some, None, if◌then◌else◌, Result, Ok, Err}
 use mathlib.Core.Path.{◌≡◌, refl, sym, ◌∙◌, ap}
@@ -9,11 +9,11 @@ use native.Mathlib.Omega.{arith}
 use Rattle.integers.specs.Order.{zint, sub_pn}
 use native.Mathlib.Numerals.{add-one}
 use lib.ListN.{length, take, drop, get_or, drop_of_length-le}
-use lib.Dec.{eqb, leb, ltb}
+use lib.Dec.{eqb, leb}
 use lib.IntN.{ℤ, pos, negsuc, neg_ℤ, ◌-ℤ◌}
 use lib.Pointwise.{pointwise}
 use lib.Seq.{drop-cons}
-use borrow.Author.Tests.{le-leb, lt-leb, leb-true, ltb-true, ltb-false, lt-ltb, le-ltb}
+use borrow.Author.Tests.{leb-false, le-leb, lt-leb, leb-true}
 use mir.Syntax.{w64, w128}
 use mir.Val.{SFits}
 use Rattle.std.specs.Result.{OkIff, result_ok}
@@ -26,9 +26,9 @@ unfoldable pub digits_from : ℕ → List ℕ → Option ℕ
 digits_from n [] = Some n
 digits_from n (b ∷ bs) =
     let more = digits_from (10 * n + (b - 48)) bs in
-    if is_digit b && ltb (10 * n + (b - 48)) (2 ^ 64) then more else None
+    if is_digit b && leb n 922337203685477580 then more else None
 
-digits_from_by : (n b : ℕ) (bs : List ℕ) {d t : Bool} → is_digit b ≡ d → ltb (10 * n + (b - 48)) (2 ^ 64) ≡ t
+digits_from_by : (n b : ℕ) (bs : List ℕ) {d t : Bool} → is_digit b ≡ d → leb n 922337203685477580 ≡ t
     → digits_from n (b ∷ bs) ≡ (if d && t then digits_from (10 * n + (b - 48)) bs else None)
 unfolding digits_from
 digits_from_by n b bs p q = λ i. if p i && q i then digits_from (10 * n + (b - 48)) bs else None
@@ -38,24 +38,33 @@ value_grows n [] = omega arith
 value_grows n (b ∷ bs) = omega (arith, value_grows (10 * n + (b - 48)) bs)
 
 held : Bool → ℕ → Option ℕ
-held a v = if not a then None else if ltb v (2 ^ 64) then Some v else None
+held a v = if not a then None else if leb v (2 ^ 63 + 1) then Some v else None
 
-too_large : (a : Bool) (v : ℕ) → 2 ^ 64 ≤ v → None ≡ held a v
+too_large : (a : Bool) (v : ℕ) → 9223372036854775809 < v → None ≡ held a v
 unfolding held
-too_large true v h = rw (le-ltb v (2 ^ 64) h) refl
+too_large true v h = rw (lt-leb v (2 ^ 63 + 1) h) refl
 too_large false v h = refl
 
-digits_from_is : (n : ℕ) (bs : List ℕ) → n < 2 ^ 64 → digits_from n bs ≡ held (all_digits bs) (value_from n bs)
-unfolding digits_from held
-digits_from_is n [] h = rw (lt-ltb n (2 ^ 64) h) refl
-digits_from_is n (b ∷ bs) h = go (λ g. digits_from_is (10 * n + (b - 48)) bs g) (is_digit b) (ltb (10 * n + (b - 48)) (2 ^ 64)) refl
+-- a digit is at most 9
+at_most : (b : ℕ) → is_digit b ≡ true → b - 48 ≤ 9
+at_most b e = go (leb 48 b) (leb b 57) refl e
   where
-    go : (10 * n + (b - 48) < 2 ^ 64 → digits_from (10 * n + (b - 48)) bs ≡ held (all_digits bs) (value_from (10 * n + (b - 48)) bs))
-        → (d t : Bool) → ltb (10 * n + (b - 48)) (2 ^ 64) ≡ t
+    go : (t u : Bool) → leb b 57 ≡ u → (t && u) ≡ true → b - 48 ≤ 9
+    go true true q e = let h = leb-true _ _ q in omega (arith, h)
+    go true false q e = absurd (let y : ◌≡◌ {A = ℕ} 0 1 = cc in omega arith)
+    go false u q e = absurd (let y : ◌≡◌ {A = ℕ} 0 1 = cc in omega arith)
+
+digits_from_is : (n : ℕ) (bs : List ℕ) → n ≤ 9223372036854775809 → digits_from n bs ≡ held (all_digits bs) (value_from n bs)
+unfolding digits_from held
+digits_from_is n [] h = rw (le-leb n (2 ^ 63 + 1) h) refl
+digits_from_is n (b ∷ bs) h = go (λ g. digits_from_is (10 * n + (b - 48)) bs g) (is_digit b) (leb n 922337203685477580) refl refl
+  where
+    go : (10 * n + (b - 48) ≤ 9223372036854775809 → digits_from (10 * n + (b - 48)) bs ≡ held (all_digits bs) (value_from (10 * n + (b - 48)) bs))
+        → (d t : Bool) → is_digit b ≡ d → leb n 922337203685477580 ≡ t
         → (if d && t then digits_from (10 * n + (b - 48)) bs else None) ≡ held (d && all_digits bs) (value_from (10 * n + (b - 48)) bs)
-    go f false t e = refl
-    go f true true e = f (ltb-true _ _ e)
-    go f true false e = too_large (all_digits bs) (value_from (10 * n + (b - 48)) bs) (let g = ltb-false _ _ e in omega (arith, g, value_grows (10 * n + (b - 48)) bs))
+    go f false t p e = refl
+    go f true true p e = let g = leb-true _ _ e in let k = at_most b p in f (omega (arith, g, k))
+    go f true false p e = too_large (all_digits bs) (value_from (10 * n + (b - 48)) bs) (let g = leb-false _ _ e in omega (arith, g, value_grows (10 * n + (b - 48)) bs))
 
 pub magnitude_none : (bs : List ℕ) → length bs ≡ 0 → None ≡ magnitude bs
 unfolding magnitude
@@ -79,15 +88,15 @@ module _ {bs : List ℕ} {n i : ℕ} (s : MagnitudeTo bs n i) where
     pub no_digit : false ≡ is_digit (get_or bs i 0) → None ≡ magnitude bs
     no_digit e = sym (digits_from_by n (get_or bs i 0) (drop (i + 1) bs) (sym e) refl) ∙ sym step ∙ s.goal
 
-    pub no_room : 2 ^ 64 ≤ 10 * n + (get_or bs i 0 - 48) → None ≡ magnitude bs
-    no_room g = go (is_digit (get_or bs i 0)) ∙ sym (digits_from_by n (get_or bs i 0) (drop (i + 1) bs) refl (le-ltb _ _ g)) ∙ sym step ∙ s.goal
+    pub no_room : 922337203685477580 < n → None ≡ magnitude bs
+    no_room g = go (is_digit (get_or bs i 0)) ∙ sym (digits_from_by n (get_or bs i 0) (drop (i + 1) bs) refl (lt-leb _ _ g)) ∙ sym step ∙ s.goal
       where
         go : (d : Bool) → None ≡ (if d && false then digits_from (10 * n + (get_or bs i 0 - 48)) (drop (i + 1) bs) else None)
         go true = refl
         go false = refl
 
-    pub magnitude_again : true ≡ is_digit (get_or bs i 0) → 10 * n + (get_or bs i 0 - 48) < 2 ^ 64 → MagnitudeTo bs (10 * n + (get_or bs i 0 - 48)) (i + 1)
-    magnitude_again e g = record { goal = sym (digits_from_by n (get_or bs i 0) (drop (i + 1) bs) (sym e) (lt-ltb _ _ g)) ∙ sym step ∙ s.goal }
+    pub magnitude_again : true ≡ is_digit (get_or bs i 0) → n ≤ 922337203685477580 → MagnitudeTo bs (10 * n + (get_or bs i 0 - 48)) (i + 1)
+    magnitude_again e g = record { goal = sym (digits_from_by n (get_or bs i 0) (drop (i + 1) bs) (sym e) (le-leb _ _ g)) ∙ sym step ∙ s.goal }
 
   pub magnitude_end : length bs ≤ i → Some n ≡ magnitude bs
   unfolding digits_from
@@ -101,9 +110,9 @@ signed false (Some n) = if leb n (2 ^ 63 - 1) then Some (pos n) else None
 
 digits_sized : (negative : Bool) (bs : List ℕ) → signed negative (magnitude bs) ≡ digits_of negative bs
 unfolding magnitude digits_of
-digits_sized negative bs = go negative (is_nil bs || not (all_digits bs)) (ltb (value_from 0 bs) (2 ^ 64)) refl
+digits_sized negative bs = go negative (is_nil bs || not (all_digits bs)) (leb (value_from 0 bs) (2 ^ 63 + 1)) refl
   where
-    go : (s t u : Bool) → ltb (value_from 0 bs) (2 ^ 64) ≡ u
+    go : (s t u : Bool) → leb (value_from 0 bs) (2 ^ 63 + 1) ≡ u
         → signed s (if t then None else if u then Some (value_from 0 bs) else None)
         ≡ (if t then None else if s then (if leb (value_from 0 bs) (2 ^ 63) then Some (neg_ℤ (pos (value_from 0 bs))) else None)
         else (if leb (value_from 0 bs) (2 ^ 63 - 1) then Some (pos (value_from 0 bs)) else None))
@@ -111,8 +120,8 @@ digits_sized negative bs = go negative (is_nil bs || not (all_digits bs)) (ltb (
     go false true u e = refl
     go true false true e = refl
     go false false true e = refl
-    go true false false e = let g = ltb-false _ _ e in rw (lt-leb (value_from 0 bs) (2 ^ 63) (omega (arith, g))) refl
-    go false false false e = let g = ltb-false _ _ e in let h : 9223372036854775807 < value_from 0 bs = omega (arith, g) in rw (lt-leb (value_from 0 bs) (2 ^ 63 - 1) h) refl
+    go true false false e = let g = leb-false _ _ e in let h : 9223372036854775808 < value_from 0 bs = omega (arith, g) in rw (lt-leb (value_from 0 bs) (2 ^ 63) h) refl
+    go false false false e = let g = leb-false _ _ e in let h : 9223372036854775807 < value_from 0 bs = omega (arith, g) in rw (lt-leb (value_from 0 bs) (2 ^ 63 - 1) h) refl
 
 pub field_minus : (bs ds : List ℕ) {m : Option ℕ} → pointwise eqb (take 1 bs) (45 ∷ []) ≡ true → ds ≡ drop 1 bs → m ≡ magnitude ds → signed true m ≡ field bs
 unfolding field

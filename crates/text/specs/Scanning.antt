@@ -1,12 +1,13 @@
 -- What the private functions that read a line answer, step by step. The definitions that the public ones cite are in Decimal and Reading.
-use Rattle.std.specs.Prelude.{Bool, not, ◌||◌, List, [], ◌∷◌, ℕ, ◌+◌, ◌^◌, length, eqb, ltb, ℤ, Option, Some, None, if◌then◌else◌}
+use Rattle.std.specs.Prelude.{Bool, not, ◌||◌, List, [], ◌∷◌, ℕ, ◌+◌, ◌^◌, length, eqb, leb, ℤ, Option, Some, None, if◌then◌else◌}
 use Rattle.plane.specs.Basics.{is_nil, Try, refuse, ok}
 use Rattle.text.specs.Decimal.{all_digits, value_from, field}
 use Rattle.text.specs.Reading.{Request, unreadable, path, rectangle_of, fields, numbers}
 
--- the number that one digit or more stand for, where 64 bits hold it; None where they do not, or where one is no digit
+-- the number that one digit or more stand for, where it is at most one more than 2 ^ 63, which is beyond every field's; None where it is larger, or where
+-- one is no digit
 unfoldable pub magnitude : List ℕ → Option ℕ
-magnitude bs = let n = value_from 0 bs in if is_nil bs || not (all_digits bs) then None else if ltb n (2 ^ 64) then Some n else None
+magnitude bs = let n = value_from 0 bs in if is_nil bs || not (all_digits bs) then None else if leb n (2 ^ 63 + 1) then Some n else None
 
 -- how many numbers there are behind n of them, where all fields are numbers
 abbrev pub counted : ℕ → Try (List ℤ) → Option ℕ

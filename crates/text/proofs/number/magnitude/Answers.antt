@@ -1,6 +1,6 @@
 -- `text::number::magnitude` meets its contract.
-use Rattle.std.proofs.Common.{◌≡◌, ◌∙◌, subst, ℕ, ◌+◌, ◌-◌, ◌*◌, get_or, arith, rules}
-use Rattle.text.proofs.FieldDigits.{magnitude_none, magnitude_start, no_digit, no_room, magnitude_again, magnitude_end, MagnitudeTo}
+use Rattle.std.proofs.Common.{rules}
+use Rattle.text.proofs.FieldDigits.{magnitude_none, magnitude_start, no_digit, no_room, magnitude_again, magnitude_end}
 use Rattle.text.proofs.number.magnitude.Goals as goal
 
 pub returns-then-is_empty : goal.returns-then-is_empty
@@ -12,18 +12,12 @@ loop-b-init c = magnitude_start c.args.digits.now (search rules)
 pub returns-then-not-is_ascii_digit : goal.returns-then-not-is_ascii_digit
 returns-then-not-is_ascii_digit c = no_digit c.loop-b.invariant c.loop-b-test.true c.if-not-is_ascii_digit.ensures.value
 
-pub returns-in_err-checked_mul : goal.returns-in_err-checked_mul
-returns-in_err-checked_mul c = c.from_residual.ensures ∙ no_room c.loop-b.invariant c.loop-b-test.true (omega (arith, c.in_err-checked_mul.ensures))
-
-pub returns-in_err-value : goal.returns-in_err-value
-returns-in_err-value c = c.from_residual-in_err-value.ensures ∙ no_room c.loop-b.invariant c.loop-b-test.true (omega (arith, c.in_err-value.ensures, c.in_ok-checked_mul.ensures.1, c.from.ensures))
+pub returns-then-value-gt-TENTH : goal.returns-then-value-gt-TENTH
+returns-then-value-gt-TENTH c = no_room c.loop-b.invariant c.loop-b-test.true c.if-value-gt-TENTH.true
 
 pub loop-b-preserved : goal.loop-b-preserved
 loop-b-preserved c =
-    let fits = c.in_ok-value.ensures in
-    let e : 10 * c.loop-b.value + (get_or c.args.digits.now c.loop-b.b-index 0 - 48) ≡ c.in_ok-value.value = omega (arith, fits.1, c.in_ok-checked_mul.ensures.1, c.from.ensures) in
-    subst (λ (v : ℕ). MagnitudeTo c.args.digits.now v (c.loop-b.b-index + 1)) e
-    (magnitude_again c.loop-b.invariant c.loop-b-test.true c.if-not-is_ascii_digit.ensures.value (omega (arith, e, fits.0, fits.1)))
+    rw c.from.ensures (magnitude_again c.loop-b.invariant c.loop-b-test.true c.if-not-is_ascii_digit.ensures.value c.if-value-gt-TENTH.false)
 
 pub returns : goal.returns
 returns c = magnitude_end c.loop-b.invariant (search rules)
